@@ -210,18 +210,17 @@ Options may stand anywhere, with a blank or = before what they name.
   state call 1 record 0/0/3 pending
   $ wc -c <c.pcap
   95
-  $ cd tests/two_controllers
-  $ ../../lab test site.toml calls/moves.txt calls/mobile_stays.txt --peer peer.toml
+  $ here=tests/two_controllers
+  $ ./lab test $here/site.toml $here/calls/moves.txt $here/calls/mobile_stays.txt --peer $here/peer.toml
   1..2
-  ok 1 - calls/moves.txt
-  ok 2 - calls/mobile_stays.txt
-  $ ../../lab test --peer=peer.toml site.toml calls/moves.txt calls/mobile_stays.txt calls/moves.txt
+  ok 1 - tests/two_controllers/calls/moves.txt
+  ok 2 - tests/two_controllers/calls/mobile_stays.txt
+  $ ./lab test --peer=$here/peer.toml $here/site.toml $here/calls/moves.txt $here/calls/mobile_stays.txt $here/calls/moves.txt
   1..3
-  ok 1 - calls/moves.txt
-  ok 2 - calls/mobile_stays.txt
-  ok 3 - calls/moves.txt
-  $ ../../lab record --peer=peer.toml site.toml calls/moves.txt | cmp calls/moves.txt -
-  $ cd ../..
+  ok 1 - tests/two_controllers/calls/moves.txt
+  ok 2 - tests/two_controllers/calls/mobile_stays.txt
+  ok 3 - tests/two_controllers/calls/moves.txt
+  $ ./lab record --peer=$here/peer.toml $here/site.toml $here/calls/moves.txt | cmp $here/calls/moves.txt -
   $ ./lab test examples/half_rate.toml --undo-everywhere examples/half_rate.txt | tail -n 1
   # same 8, held 0, not settled 0, differ 0
   $ printf '0004211b1500\n' >a.txt
