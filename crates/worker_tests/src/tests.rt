@@ -1,7 +1,6 @@
 mod answers;
 mod beside;
 mod gathering;
-mod largest;
 mod memory;
 mod moved;
 mod offices;
