@@ -158,30 +158,30 @@ The same of other commands.
   $ cat errors
   no site: no such file
 
-Of a path what steers a terminal, or can't be seen, is shown by an escape; all else as it stands.
+On standard error what steers a terminal, or can't be seen, is shown by an escape; all else of a path as it stands.
 
-  $ ./lab check 'a b\n "' 2>/dev/null
-  file a b\n "
+  $ ./lab check 'a b\n "' 2>&1 >/dev/null
+  a b\n ": no such file
   [2]
-  $ ./lab check "$(printf 'a\nb\tc\rd\033[2J')" 2>/dev/null
-  file a\nb\tc\rd\u{1b}[2J
+  $ ./lab check "$(printf 'a\nb\tc\rd\033[2J')" 2>&1 >/dev/null
+  a\nb\tc\rd\u{1b}[2J: no such file
   [2]
-  $ ./lab check "$(printf '\303\251\342\202\254\360\237\223\261')" 2>/dev/null
-  file \xc3\xa9\xe2\x82\xac\xf0\x9f\x93\xb1 (esc)
+  $ ./lab check "$(printf '\303\251\342\202\254\360\237\223\261')" 2>&1 >/dev/null
+  \xc3\xa9\xe2\x82\xac\xf0\x9f\x93\xb1: no such file (esc)
   [2]
   $ cat >ranges.py <<'END'
   > import subprocess
   > import sys
   > def shown(number):
   >     done = subprocess.run(["./lab", "check", chr(number).encode()], capture_output=True)
-  >     return done.stdout.decode()
+  >     return done.stderr.decode()
   > for line in sys.stdin:
   >     first, last = (int(word, 16) for word in line.split())
   >     for number in (first, last):
-  >         if shown(number) != f"file \\u{{{number:x}}}\n":
+  >         if shown(number) != f"\\u{{{number:x}}}: no such file\n":
   >             print(f"{number:x} is shown as it stands")
   >     for number in (first - 1, last + 1):
-  >         if shown(number) != f"file {chr(number)}\n":
+  >         if shown(number) != f"{chr(number)}: no such file\n":
   >             print(f"{number:x} isn't shown as it stands")
   > END
 

@@ -126,9 +126,10 @@ but where it ends.
 Lines of a file, and of one that isn't there.
 
   $ printf 'rr 062c00\nabis 082e010b\n' >messages.txt
-  $ ./lab decode --from messages.txt 2>&1
+  $ ./lab decode --from messages.txt 2>errors
   1 HANDOVER COMPLETE cause=0
   2 RF CHANNEL RELEASE tn=3
+  $ cat errors
   messages.txt: messages 2, refused 0
   $ ./lab decode --from 'no such file' 2>errors
   file no such file

@@ -228,7 +228,6 @@ Whose a line is: a message about a channel that no call has; a handover that fin
   > abis 0 0 0822010b080000
   > open 2 1 1 3
   > handover 1 1
-  > handover 2 1
   > expire 1 T3103
   > undo 3
   > END
@@ -241,8 +240,6 @@ Whose a line is: a message about a channel that no call has; a handover that fin
   in handover 1 1 # call 1
   event look 1 -> record 0/0/3 on # call 1
   none free 1 # call 1
-  in handover 2 1 # call 2
-  event look 2 -> record 1/1/3 pending # call 2
   in expire 1 T3103 # call 1
   event undo 1 t3103 -> refused 9 # call 1; NotArmed: the timer isn't armed for the call
   in undo 3 # call 3
