@@ -147,3 +147,36 @@ Messages in words that say none, and why: the first thing that is wrong with eac
   $ ./lab encode rr "MEASUREMENT REPORT n=0/32/0 n=64/0/0 ba=0 dtx=0 full=30 ba3g=0 valid=1 sub=30 si23=0 qfull=0 qsub=0 count=1" 2>&1 >/dev/null
   n is a level 0 to 63, a position 0 to 31 and a code 0 to 63, as in 40/2/21, found "0/32/0"
   [2]
+
+Texts of fifteen thousand parts.
+
+  $ many() { printf '%s' "$1"; for _ in $(seq 15000); do printf '%s' "$2"; done; }
+  $ ./lab encode a "$(many 'CLEAR COMMAND cause=9' ' cause=9')" 2>&1 >/dev/null
+  cause stands twice
+  [2]
+  $ ./lab encode a "$(many 'HANDOVER FAILURE rr=1' ' rr=1')" 2>&1 >/dev/null
+  cause is missing: bsc_lab help encode lists the fields
+  [2]
+  $ ./lab encode a "$(many 'HANDOVER REQUIRED cause=12 response=1 cells=23/102' ',23/102')" 2>&1 >/dev/null
+  the message can't be written: it, or a list of octets in it, is too long
+  [2]
+  $ ./lab encode a "$(many 'HANDOVER REQUIRED cause=12 response=1 cells=' '23/102,')" 2>&1 >/dev/null
+  cells is a list of cells with their location areas, as in 23/102,23/103, found "23/102,23/102,23/102,23/102,23/102,23/102,23/102,23/102,23/1"..
+  [2]
+  $ ./lab encode a "$(many 'CLEAR COMMAND' S)" 2>&1 >/dev/null
+  "CLEAR COMMANDSSSSSSSSSSSSSSSSSSSSSSSSSSSSSSSSSSSSSSSSSSSSSSS".. is no message of the link a: a name stands before fields as KEY=VALUE, and bsc_lab help encode lists both
+  [2]
+
+Of a word sixty characters are shown, with escapes.
+
+  $ front='HANDOVER REQUIRED cause=12 cells=23/102 response='
+  $ ./lab encode a "$(printf '%s2\t' "$front")" 2>&1 >/dev/null
+  response is 0 or 1, found "2\t"
+  [2]
+  $ word=$(for _ in 1 2 3 4 5 6; do printf '\303\244234567\342\202\25490'; done)
+  $ ./lab encode a "$front$word" 2>&1 >/dev/null
+  response is 0 or 1, found "\xc3\xa4234567\xe2\x82\xac90\xc3\xa4234567\xe2\x82\xac90\xc3\xa4234567\xe2\x82\xac90\xc3\xa4234567\xe2\x82\xac90\xc3\xa4234567\xe2\x82\xac90\xc3\xa4234567\xe2\x82\xac90" (esc)
+  [2]
+  $ ./lab encode a "$(printf '%s\t%s' "$front" "$word")" 2>&1 >/dev/null
+  response is 0 or 1, found "\\t\xc3\xa4234567\xe2\x82\xac90\xc3\xa4234567\xe2\x82\xac90\xc3\xa4234567\xe2\x82\xac90\xc3\xa4234567\xe2\x82\xac90\xc3\xa4234567\xe2\x82\xac90\xc3\xa4234567\xe2\x82\xac9".. (esc)
+  [2]

@@ -42,3 +42,59 @@ A number that has no words is refused in one line on standard error, and so is o
   *fault a 2 has no argument* (glob)
   [2]
   $ cat printed
+
+Which arguments faults have (CODECS): on rr, on A, on Abis.
+
+  $ argument() { ./lab explain fault "$@" 2>&1 >>printed; }
+  $ argument rr 1 0
+  *fault rr 1 has no argument* (glob)
+  [2]
+  $ argument rr 2 256
+  error: the argument of fault rr 2 is a message type, 0 to 255, found 256
+  [2]
+  $ argument rr 3 0
+  *fault rr 3 has no argument* (glob)
+  [2]
+  $ argument rr 4 0
+  error: the argument of fault rr 4 is the number of what is wrong with the element, 1 to 4, found 0
+  [2]
+  $ argument rr 4 5
+  error: the argument of fault rr 4 is the number of what is wrong with the element, 1 to 4, found 5
+  [2]
+  $ argument a 1 0
+  *fault a 1 has no argument* (glob)
+  [2]
+  $ argument a 3 256
+  error: the argument of fault a 3 is a message type, 0 to 255, found 256
+  [2]
+  $ argument a 4 256
+  error: the argument of fault a 4 is an element identifier, 0 to 255, found 256
+  [2]
+  $ argument a 5 256
+  error: the argument of fault a 5 is an element identifier, 0 to 255, found 256
+  [2]
+  $ argument a 6 2
+  error: the argument of fault a 6 is an offset, 3 to 254, found 2
+  [2]
+  $ argument a 6 255
+  error: the argument of fault a 6 is an offset, 3 to 254, found 255
+  [2]
+  $ argument abis 1 0
+  *fault abis 1 has no argument* (glob)
+  [2]
+  $ argument abis 2 256
+  error: the argument of fault abis 2 is a message type, 0 to 255, found 256
+  [2]
+  $ argument abis 4 256
+  error: the argument of fault abis 4 is an element identifier, 0 to 255, found 256
+  [2]
+  $ argument abis 5 0
+  error: the argument of fault abis 5 is an offset, 1 to 1023, found 0
+  [2]
+  $ argument abis 5 1024
+  error: the argument of fault abis 5 is an offset, 1 to 1023, found 1024
+  [2]
+  $ argument abis 6 0
+  *fault abis 6 has no argument* (glob)
+  [2]
+  $ cat printed

@@ -175,3 +175,57 @@ A path is printed as it is said: what would steer a terminal, or can't be seen, 
   [2]
   $ cat errors
   c\r: named twice
+
+On standard error what steers a terminal, or can't be seen, is shown by an escape; all else of a path as it stands.
+
+  $ ./lab check 'a b\n "' 2>&1 >/dev/null
+  a b\n ": no such file
+  [2]
+  $ ./lab check "$(printf 'a\nb\tc\rd\033[2J')" 2>&1 >/dev/null
+  a\nb\tc\rd\u{1b}[2J: no such file
+  [2]
+  $ ./lab check "$(printf '\303\251\342\202\254\360\237\223\261')" 2>&1 >/dev/null
+  \xc3\xa9\xe2\x82\xac\xf0\x9f\x93\xb1: no such file (esc)
+  [2]
+  $ cat >ranges.py <<'END'
+  > import subprocess
+  > import sys
+  > def shown(number):
+  >     done = subprocess.run(["./lab", "check", chr(number).encode()], capture_output=True)
+  >     return done.stderr.decode()
+  > for line in sys.stdin:
+  >     first, last = (int(word, 16) for word in line.split())
+  >     for number in (first, last):
+  >         if shown(number) != f"\\u{{{number:x}}}: no such file\n":
+  >             print(f"{number:x} is shown as it stands")
+  >     for number in (first - 1, last + 1):
+  >         if shown(number) != f"{chr(number)}: no such file\n":
+  >             print(f"{number:x} isn't shown as it stands")
+  > END
+
+The first and the last of each range of characters that steer a terminal or can't be seen (controls, blanks, fillers, marks
+of direction and of variation, tags), and those beside them, which stand as they are.
+
+  $ python3 ranges.py <<'END'
+  > 7f a0
+  > ad ad
+  > 34f 34f
+  > 61c 61c
+  > 115f 1160
+  > 1680 1680
+  > 17b4 17b5
+  > 180b 180f
+  > 2000 200f
+  > 2028 202f
+  > 205f 206f
+  > 2800 2800
+  > 3000 3000
+  > 3164 3164
+  > fe00 fe0f
+  > feff feff
+  > ffa0 ffa0
+  > fff9 fffb
+  > 1d173 1d17a
+  > e0000 e007f
+  > e0100 e01ef
+  > END

@@ -121,3 +121,34 @@ Behind the mandatory part of a radio resource message (TS 44.018 clause 9.1).
   1 HANDOVER COMMAND arfcn=871 ncc=2 bcc=5 tn=3 tsc=5 carrier=875 reference=42 atc=0 power=5 rest=d0
   $ printf '06151e1e006812a0000000000000000000002b' | ./lab decode rr --from - --all 2>/dev/null
   1 MEASUREMENT REPORT ba=0 dtx=0 full=30 ba3g=0 valid=1 sub=30 si23=0 qfull=0 qsub=0 count=1 n=40/2/21 rest=2b
+
+The longest line has 65,536 octets, and no message fits in it. Of one above that, and of one much above it, nothing is read
+but where it ends.
+
+  $ lines() { head -c "$1" /dev/zero | tr '\0' '8'; printf '\n062c00\n'; }
+  $ lines 65536 | ./lab decode rr --from - 2>/dev/null
+  1 fault rr 1
+  2 HANDOVER COMPLETE cause=0
+  [2]
+  $ lines 65537 | ./lab decode rr --from - 2>/dev/null
+  1 long
+  2 HANDOVER COMPLETE cause=0
+  [2]
+  $ lines 1048576 | ./lab decode rr --from - 2>/dev/null
+  1 long
+  2 HANDOVER COMPLETE cause=0
+  [2]
+
+Lines of a file, and of one that isn't there.
+
+  $ printf 'rr 062c00\nabis 082e010b\n' >messages.txt
+  $ ./lab decode --from messages.txt 2>errors
+  1 HANDOVER COMPLETE cause=0
+  2 RF CHANNEL RELEASE tn=3
+  $ cat errors
+  messages.txt: messages 2, refused 0
+  $ ./lab decode --from 'no such file' 2>errors
+  file no such file
+  [2]
+  $ cat errors
+  no such file: no such file

@@ -45,6 +45,23 @@ Two cells with two traffic channels each:
   channels in use 0
   audit same
 
+The widest site, 64 cells with four TRX each: of its 31 traffic channels a cell needs 30 for the 15 calls that begin there.
+
+  $ printf '[handover]\nwindow = 2\nmargin = 3\nminimum = 10\n' >wide.toml
+  $ for n in $(seq 0 63); do printf '[[cell]]\nlac = 1\nci = %d\nbcch = %d\nncc = 0\nbcc = 0\npower = 5\nba = []\ntrx = [{ arfcn = %d, tch = [1, 2, 3, 4, 5, 6, 7] }' $n $((4 * n)) $((4 * n)); for m in 1 2 3; do printf ', { arfcn = %d, tch = [0, 1, 2, 3, 4, 5, 6, 7] }' $((4 * n + m)); done; printf ']\n'; done >>wide.toml
+  $ ./lab storm wide.toml --workers 16 --calls 960
+  calls 960
+  attempts 960
+  completed 480
+  undone 480
+  channels in use 0
+  audit same
+  $ ./lab storm wide.toml --workers 16 --calls 961 2>errors
+  site too small
+  [2]
+  $ cat errors
+  wide.toml: cell 0 has 31 full rate channels, and needs 32
+
 A site is too small where it has one cell, or where a cell has fewer than twice as many traffic channels as calls begin in
 one; here a call that begins in cell 0 needs a channel of cell 1, and one of cell 1 a channel of cell 0.
 
@@ -105,6 +122,9 @@ Words that ask for none: there are 1 to 16 workers, and 1 to 1,024 calls.
   [2]
   $ ./lab storm examples/eight_cells.toml --workers 4 --calls 1025 2>&1 >>printed
   *'1025'*1..=1024*M is a number from 1 to 1024* (glob)
+  [2]
+  $ ./lab storm examples/eight_cells.toml --workers -1 --calls 64 2>&1 >>printed
+  *'-1'* (glob)
   [2]
   $ ./lab storm examples/eight_cells.toml --workers four --calls 64 2>&1 >>printed
   *'four'*'--workers <N>'*N is a number from 1 to 16* (glob)

@@ -7,6 +7,28 @@ REQUIRED while input 3 is handled.
   $ od -An -v -tx1 -w4096 run.pcap | tr -d ' '
   a1b2c3d40002000400000000000000000000ffff00000065000000010000000000000037000000374500003700004000400626c00a0000010a0100000bbb0bbb00000001000000015018ffff521e0000000c000821010b0300060400010801000000020000000000000032000000324500003200004000400626c50a0100000a0000010bbb0bbb00000001000000105018ffff572200000007000822010b0800000000000300000000000000450000004545000045000040004006264e0a0000010a6400011388138800000001000000015018ffff6c940000001afd09000305070242fe0242fe0e000c1104010c1b1a050100170066
 
+Addresses tell the link. Each packet has the protocol of TCP, the header's checksum (taken out here), and the addresses of
+who sends and who receives, here a station or the centre, and the controller.
+
+  $ cat >script.txt <<'END'
+  > abis 0 0 08
+  > abis 63 3 08
+  > 2: abis 255 255 08
+  > a 0 00
+  > a 65535 00
+  > 2: a 40000 00
+  > 2: a 1234 00
+  > END
+  $ ./lab run examples/two_cells.toml script.txt --peer examples/one_cell.toml --pcap run.pcap >printed
+  $ od -An -v -tx1 -w4096 run.pcap | tr -d ' \n' | grep -o '4006....0a......0a......' | sed 's/^4006....//'
+  0a0100000a000001
+  0a013f030a000001
+  0a02ffff0a000002
+  0a6400000a000001
+  0a6a37230a000001
+  0acc00000a000002
+  0ac80c220a000002
+
 A run that is refused changes no file: a line of the script can't be read; a file is named twice, also under another
 path or by a link; a device may be named twice, since it has nothing to lose.
 

@@ -219,3 +219,67 @@ What the book holds stands behind each input, and behind the end.
   state channel 0/0/3 on call 1
   state call 1 record 0/0/3 on outgoing required - -
   state timer T7 call 1
+
+Whose a line is: a message about a channel that no call has; a handover that finds no channel; a timer that isn't armed.
+
+  $ cat >script.txt <<'END'
+  > abis 0 0 0833010b
+  > open 1 0 0 3
+  > abis 0 0 0822010b080000
+  > open 2 1 1 3
+  > handover 1 1
+  > expire 1 T3103
+  > undo 3
+  > END
+  $ ./lab run examples/two_cells.toml script.txt --words | grep -v -e '^out' -e '^in open' -e '^event open'
+  in abis 0 0 0833010b # no call; RF CHANNEL RELEASE ACK tn=3
+  event released 0/0/3 -> refused 8 0/0/3 # no call; Unexpected: this channel is in use for no call, or doesn't wait for this message of its station
+  in abis 0 0 0822010b080000 # call 1; CHANNEL ACTIVATION ACK tn=3 frame=0
+  event confirm 0/0/3 -> owned 1 # call 1
+  event look 1 -> record 0/0/3 on # call 1
+  in handover 1 1 # call 1
+  event look 1 -> record 0/0/3 on # call 1
+  none free 1 # call 1
+  in expire 1 T3103 # call 1
+  event undo 1 t3103 -> refused 9 # call 1; NotArmed: the timer isn't armed for the call
+  in undo 3 # call 3
+  event undo 3 asked -> refused 1 # call 3; NoCall: there is no such call
+  end channels=2 calls=2 references=0 timers=0 # this is left
+
+A call that was to leave comes back: the causes of what is sent, and that of the radio path which is passed on.
+
+  $ cat >script.txt <<'END'
+  > open 1 0 0 3
+  > abis 0 0 0822010b080000
+  > handover 1 64
+  > a 1 000c131709062bd5670ba36b2a05
+  > abis 0 0 0302010b02000b0003062803
+  > a 1 0005200401098f
+  > END
+  $ ./lab run examples/two_cells.toml script.txt --words | grep -e ' a 1 '
+  out a 1 000c1104010c1b1a050100170066 # call 1; HANDOVER REQUIRED cause=12 response=1 cells=23/102; better cell
+  in a 1 000c131709062bd5670ba36b2a05 # call 1; HANDOVER COMMAND layer3=062bd5670ba36b2a05; HANDOVER COMMAND arfcn=871 ncc=2 bcc=5 tn=3 tsc=5 carrier=875 reference=42 atc=0 power=5
+  out a 1 00061604010a1503 # call 1; HANDOVER FAILURE cause=10 rr=3; radio interface failure, reversion to old channel; abnormal release, timer expired
+  in a 1 0005200401098f # call 1; CLEAR COMMAND cause=9; call control
+  out a 1 000121 # call 1; CLEAR COMPLETE
+
+Of two controllers each has its own channels. A half has a call of its own, also where octets are cut behind its number; the
+other half has none, nor has a channel number of another type (TS 48.058 clause 9.3.1).
+
+  $ cat >script.txt <<'END'
+  > 2: open 7 0 0 3/1
+  > 2: abis 0 0 0824011b1a0101
+  > 2: abis 0 0 0824011b
+  > 2: abis 0 0 08240113
+  > 2: abis 0 0 08240123
+  > open 1 0 0 1
+  > abis 0 0 08330109
+  > END
+  $ ./lab run examples/one_cell.toml script.txt --peer examples/half_rate.toml --words | grep ': in '
+  2: in open 7 0 0 3/1 # call 7
+  2: in abis 0 0 0824011b1a0101 # call 7; CONNECTION FAILURE INDICATION tn=3/1 cause=1; radio link failure
+  2: in abis 0 0 0824011b # call 7
+  2: in abis 0 0 08240113 # no call
+  2: in abis 0 0 08240123 # no call
+  1: in open 1 0 0 1 # call 1
+  1: in abis 0 0 08330109 # call 1; RF CHANNEL RELEASE ACK tn=1

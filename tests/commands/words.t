@@ -184,3 +184,64 @@ The version.
   bsc_lab 0.1
   $ ./lab -V
   bsc_lab 0.1
+
+Options may stand anywhere, with a blank or = before what they name.
+
+  $ ./lab run examples/two_cells.toml examples/handover_between.txt --peer examples/one_cell.toml >two
+  $ ./lab run --peer examples/one_cell.toml examples/two_cells.toml examples/handover_between.txt | cmp two -
+  $ ./lab run examples/two_cells.toml --peer=examples/one_cell.toml examples/handover_between.txt | cmp two -
+  $ ./lab run --pcap a.pcap examples/two_cells.toml examples/handover_between.txt --peer examples/one_cell.toml | cmp two -
+  $ ./lab run examples/two_cells.toml examples/handover_between.txt --peer examples/one_cell.toml --words --state >shown
+  $ ./lab run examples/two_cells.toml --chart=b.svg examples/handover_between.txt --peer examples/one_cell.toml --pcap b.pcap --words --state | cmp shown -
+  $ cmp a.pcap b.pcap
+  $ cmp examples/handover_between.svg b.svg
+  $ ./lab run examples/two_cells.toml --audit examples/handover_undone.txt | tail -n 3
+  attempts 1
+  held -
+  same
+  $ printf 'open 1 0 0 3\n' | ./lab live --pcap c.pcap examples/two_cells.toml --state --words
+  in open 1 0 0 3 # call 1
+  event open 1 0/0/3 -> done # call 1
+  out abis 0 0 0821010b0300060400010801 # call 1; CHANNEL ACTIVATION tn=3 activation=0 mode=00010801 reference=-
+  state channel 0/0/3 pending call 1
+  state call 1 record 0/0/3 pending
+  end channels=1 calls=1 references=0 timers=0 # this is left
+  state channel 0/0/3 pending call 1
+  state call 1 record 0/0/3 pending
+  $ wc -c <c.pcap
+  95
+  $ here=tests/two_controllers
+  $ ./lab test $here/site.toml $here/calls/moves.txt $here/calls/mobile_stays.txt --peer $here/peer.toml
+  1..2
+  ok 1 - tests/two_controllers/calls/moves.txt
+  ok 2 - tests/two_controllers/calls/mobile_stays.txt
+  $ ./lab test --peer=$here/peer.toml $here/site.toml $here/calls/moves.txt $here/calls/mobile_stays.txt $here/calls/moves.txt
+  1..3
+  ok 1 - tests/two_controllers/calls/moves.txt
+  ok 2 - tests/two_controllers/calls/mobile_stays.txt
+  ok 3 - tests/two_controllers/calls/moves.txt
+  $ ./lab record --peer=$here/peer.toml $here/site.toml $here/calls/moves.txt | cmp $here/calls/moves.txt -
+  $ ./lab test examples/half_rate.toml --undo-everywhere examples/half_rate.txt | tail -n 1
+  # same 8, held 0, not settled 0, differ 0
+  $ printf '0004211b1500\n' >a.txt
+  $ ./lab decode --all --from a.txt a 2>/dev/null
+  1 CLEAR COMPLETE unused=1b/ unused=15/00
+  $ ./lab decode a --from=a.txt 2>/dev/null
+  1 CLEAR COMPLETE
+  $ printf 'a 0004211b1500\n' | ./lab decode --from - --all 2>/dev/null
+  1 CLEAR COMPLETE unused=1b/ unused=15/00
+
+What is read later is handed on as it stands, be it hexadecimal or not; behind -- also what begins with one.
+
+  $ ./lab decode rr 0g 2>/dev/null
+  hex
+  [2]
+  $ ./lab decode rr - 2>/dev/null
+  hex
+  [2]
+  $ ./lab decode rr -- -0 2>/dev/null
+  hex
+  [2]
+  $ ./lab decode abis '' 2>/dev/null
+  fault abis 1
+  [2]

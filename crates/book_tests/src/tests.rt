@@ -5,13 +5,9 @@ mod courses;
 mod desk;
 mod desk_memory;
 mod foreign;
-mod hundred;
-mod largest;
 mod memory;
 mod openings;
 mod owed;
-mod stages;
-mod worked;
 
 use cell_table::Site;
 use channel_fsm::{ChanId, Rate, Sub};

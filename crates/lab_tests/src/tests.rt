@@ -1,34 +1,28 @@
-//! What no clause says, and no command line shows: a few whole runs on the public calls, which job words ask for, refused
-//! memory and failing writes, turns that no short script brings and a viewer is told of, charts and captures of what no
-//! script brings, and each small piece.
-mod charted;
+//! What no clause says, and no command line shows: refused memory, failing writes, charts of what no script brings, and each
+//! small piece.
 mod decoded;
 mod drawn;
 mod encoded;
 mod failing;
 mod packets;
-mod peer;
 mod program;
 mod reasoned;
 mod refusals;
 mod rewound;
-mod rows;
 mod shown;
 mod storm_runs;
 mod tested;
-mod told;
 mod viewed;
-mod words;
 
 use lab::run::{LabFault, Status, lab_run};
 use refusing_heap::RefusingHeap;
 use sample_sites::THREE_CHANNELS as SITE;
 use std::alloc::{Allocator, Global};
 use std::fmt::Debug;
+use std::fs;
 use std::process::Abort;
 use std::rt::Files;
 use std::test::Fail;
-use std::{fs, str};
 
 // Each test asserts by these: an assertion in a function of its own is proved once, and a call of it costs little.
 
@@ -106,22 +100,6 @@ fn ends_so(
     equals_at(rt, text, printed, what);
 }
 
-/// How a command ends, what it prints, and what it says of errors.
-type Ending<'a> = (Result<Status, LabFault>, &'a str, &'a str);
-
-/// A command has ended so.
-fn ends_saying(
-    rt: &impl Abort,
-    ended: Result<Status, LabFault>,
-    (out, errors): (&[u8], &[u8]),
-    wanted: Ending<'_>,
-    what: &str,
-) -> Result<(), Fail> {
-    let found = (ended, str::from_utf8(out)?, str::from_utf8(errors)?);
-    equals_at(rt, found, wanted, what);
-    Ok(())
-}
-
 /// A command has printed all of a text, or a front of it where memory was refused.
 fn is_whole_or_cut(
     rt: &impl Abort,
@@ -136,31 +114,4 @@ fn is_whole_or_cut(
         Err(LabFault::NoMemory) => holds_at(rt, heap.was_refused(), n),
         _ => holds_at(rt, false, (n, text)),
     }
-}
-
-/// A run over these sites ends so and prints this.
-fn prints_of(
-    rt: &impl Abort,
-    alloc: Global,
-    site: &str,
-    peer: Option<&str>,
-    script: &str,
-    ended: Status,
-    wanted: &str,
-) -> Result<(), Fail> {
-    let (status, text) = printed(alloc, alloc, site, peer, script)?;
-    ends_so(rt, (status, text.as_str()), (ended, wanted), script);
-    Ok(())
-}
-
-/// A run over one site ends so and prints this.
-fn prints(
-    rt: &impl Abort,
-    alloc: Global,
-    site: &str,
-    script: &str,
-    ended: Status,
-    wanted: &str,
-) -> Result<(), Fail> {
-    prints_of(rt, alloc, site, None, script, ended, wanted)
 }

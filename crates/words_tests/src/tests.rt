@@ -1,12 +1,9 @@
-//! What no clause says of words: that texts can be read and written, where memory is refused, and printed texts that no
-//! command line in `tests/commands` shows.
+//! What no clause says of words: refused memory, writes and reads that fail, small pieces, and printed texts that no command
+//! line in `tests/commands` shows.
 mod encoded;
-mod events;
-mod explained;
 mod files;
 mod lines;
 mod octets;
-mod traces;
 
 use refusing_heap::RefusingHeap;
 use std::alloc::Global;

@@ -1,12 +1,14 @@
 //! Memory is refused in each call of a book, in a rewind, which asks two runs, and in marks, which ask one.
 use super::Ask::{Step, TakeAny};
 use super::{
-    ACTIVATE, Ask, COMMAND, CONFIRM, RELEASED, RESERVE, STEADY, TAKE, UNDO, book_of, channel_at,
-    equals_at, holds, holds_at, put_to_book, step_all,
+    ACTIVATE, Ask, COMMAND, COMPLETE, CONFIRM, RELEASED, RESERVE, STEADY, TAKE, UNDO, book_of,
+    channel_at, equals_at, holds, holds_at, put_to_book, step_all,
 };
 use cell_table::Site;
 use radio_book::book::{Book, Usage};
-use radio_book::event::Event::{Clear, Confirm, Detect, Left, Open, Order, Refuse, Require, Take};
+use radio_book::event::Event::{
+    Clear, Confirm, Detect, Left, Look, Open, Order, Owner, Refuse, Released, Require, Take,
+};
 use radio_book::event::Kind::Incoming;
 use radio_book::event::Reply::Done;
 use radio_book::event::{Event, Reply};
@@ -329,11 +331,20 @@ const TAKES_NONE: &[Event] = &[
     Detect(TARGET),
     UNDO,
     RELEASED,
+    TAKE,
+    RESERVE,
+    ACTIVATE,
+    CONFIRM,
+    COMMAND,
+    Owner(TARGET),
+    COMPLETE,
+    Released(HOME),
+    Look(1),
     Require(1),
     Order(1),
     Left(1),
     Clear(2),
-    Open(3, HOME),
+    Open(3, TARGET),
 ];
 
 #[test]

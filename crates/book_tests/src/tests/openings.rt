@@ -1,5 +1,4 @@
 //! Which openings in a list are undone, what is left out of the list with them, and which refusals are held.
-use super::worked::finds_none;
 use super::{
     ACTIVATE, CONFIRM, RELEASED, RESERVE, STEADY, TAKE, UNDO, all_but, at_a_new_book, at_places,
     equals_at, holds_at, step_all,
@@ -13,7 +12,7 @@ use radio_book::event::Event::{
 use radio_book::event::Kind::{Incoming, Internal};
 use radio_book::event::Timer::T8;
 use radio_book::event::Why::{Asked, Expired};
-use radio_book::rewind::{Rewound, rewind};
+use radio_book::rewind::{RewindFault, Rewound, rewind};
 use sample_sites::{OTHER, TARGET, THREE_CHANNELS};
 use std::alloc::{AllocError, Global};
 use std::process::Abort;
@@ -87,6 +86,18 @@ const OPENINGS: &[Opening] = &[
     (34, &[34, 35, 37], true, None),
 ];
 
+fn finds_none(
+    rt: &(impl AllocGlobal + Abort),
+    book: &Book<Global>,
+    events: &[Event],
+    places: &[usize],
+) {
+    for at in places {
+        let fault = rewind(rt.alloc(), book, events, *at).err();
+        equals_at(rt, fault, Some(RewindFault::NoAttempt), (at, events));
+    }
+}
+
 // Where no refusal is held and no release awaited, the book is the one without the attempt, and so are the replies.
 fn leaves_no_trace(
     rt: &(impl AllocGlobal + Abort),
@@ -100,7 +111,7 @@ fn leaves_no_trace(
     Ok(())
 }
 
-pub(super) fn is_taken_out(
+fn is_taken_out(
     rt: &(impl AllocGlobal + Abort),
     rewound: &Rewound<Global>,
     others: &[usize],
@@ -117,7 +128,7 @@ pub(super) fn is_taken_out(
     }
 }
 
-pub(super) fn rewinds(
+fn rewinds(
     rt: &(impl AllocGlobal + Abort),
     book: &Book<Global>,
     events: &[Event],

@@ -6,14 +6,14 @@ use std::test::Fail;
 
 /// Where something happens in a row: at no lane, at one, or from one to another.
 #[derive(Clone, Copy, Debug)]
-pub(super) enum Place {
+enum Place {
     Nowhere,
     At(u32),
     Between(u32, u32),
 }
 
 /// A row in short: its heading, where something happens, and the text that stands there.
-pub(super) type Line = (&'static str, Place, &'static str);
+type Line = (&'static str, Place, &'static str);
 
 /// What happens there.
 fn shape_of(place: Place, text: &'static str) -> Shape<'static> {
@@ -25,7 +25,7 @@ fn shape_of(place: Place, text: &'static str) -> Shape<'static> {
 }
 
 /// The rows of a chart.
-pub(super) fn rows_of(alloc: Global, lines: &[Line]) -> Result<Vec<Row<'static>>, AllocError> {
+fn rows_of(alloc: Global, lines: &[Line]) -> Result<Vec<Row<'static>>, AllocError> {
     let mut rows = Vec::new(alloc);
     for (heading, place, text) in lines {
         rows.push(Row {

@@ -1,24 +1,12 @@
+use super::equals_at;
 use super::failing::Failing;
-use super::{ends_saying, equals_at};
 use lab::decoded::LinkName;
 use lab::encoded::encode_run;
-use lab::run::{LabFault, Status};
+use lab::run::LabFault;
 use refusing_heap::RefusingHeap;
-use std::test::Fail;
 
-/// A message in words, and its octets.
+/// A message in words.
 const COMPLETE: &str = "HANDOVER COMPLETE cause=0";
-
-const OCTETS: &str = "062c00\n";
-
-#[test]
-fn a_message_is_written(rt: HostRuntime) -> Result<(), Fail> {
-    let mut out = Vec::new(rt.alloc());
-    let mut errors = Vec::new(rt.alloc());
-    let ended = encode_run(rt.alloc(), LinkName::Rr, COMPLETE, &mut out, &mut errors);
-    let texts = (out.as_slice(), errors.as_slice());
-    ends_saying(&rt, ended, texts, (Ok(Status::Done), OCTETS, ""), COMPLETE)
-}
 
 #[test]
 fn a_refused_request_and_a_failed_write(rt: HostRuntime) {

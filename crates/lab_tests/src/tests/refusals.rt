@@ -1,17 +1,165 @@
+//! Runs over a heap that refuses a request, and to a writer that fails.
 use super::failing::Failing;
-use super::rows::{HANDOVER, TRACES, script_of};
 use super::{ONE_CALL, SITE, equals_at, holds_at, is_whole_or_cut, printed};
 use lab::run::{LabFault, Status, lab_run};
 use refusing_heap::RefusingHeap;
-use sample_sites::{NO_TRAFFIC, SAME_IDENTITY};
+use sample_sites::{NO_TRAFFIC, PEER, SAME_IDENTITY};
 use std::alloc::Global;
 use std::process::Abort;
 use std::str;
 use std::test::Fail;
 
+/// A handover to the end, and its trace.
+const HANDOVER: (&str, &str) = (
+    "open 1 0 0 3
+abis 0 0 0822010b081234
+handover 1 1
+abis 1 1 0822010b080000
+abis 1 1 0827010b1102
+abis 1 1 0302010b02000b0003062c00
+abis 0 0 0833010b
+",
+    "in open 1 0 0 3
+event open 1 0/0/3 -> done
+out abis 0 0 0821010b0300060400010801
+in abis 0 0 0822010b081234
+event confirm 0/0/3 -> owned 1
+event look 1 -> record 0/0/3 on
+in handover 1 1
+event look 1 -> record 0/0/3 on
+event take 1 internal 1/1/3 -> done
+event reserve 1 0 -> done
+event activate 1 -> done
+out abis 1 1 0821010b03020604000108010900
+in abis 1 1 0822010b080000
+event confirm 1/1/3 -> owned 1
+event look 1 -> record 0/0/3 on internal confirmed 1/1/3 0
+event command 1 -> done
+out abis 0 0 0301010b02000b0009062bd5670ba36b0005
+in abis 1 1 0827010b1102
+event detect 1/1/3 -> owned 1
+event look 1 -> record 0/0/3 on internal detected 1/1/3 0
+in abis 1 1 0302010b02000b0003062c00
+event owner 1/1/3 -> owned 1
+event look 1 -> record 0/0/3 on internal detected 1/1/3 0
+event complete 1 -> done
+out abis 0 0 082e010b
+out a 1 000b1704010c05050100170065
+in abis 0 0 0833010b
+event released 0/0/3 -> done
+end channels=1 calls=1 references=0 timers=0
+",
+);
+
+/// A call comes from another controller, and no channel is free; the encryption permits no call in clear; no such cell.
+const TURNED_AWAY: (&str, &str) = (
+    "open 1 1 1 3
+abis 1 1 0822010b080000
+a 9 0019100b030108010a01011d330505010017006605050100170065
+a 9 0019100b030108010a01021d330505010017006605050100170065
+a 9 0019100b030108010a01011d330505010017006605050100170063
+",
+    "in open 1 1 1 3
+event open 1 1/1/3 -> done
+out abis 1 1 0821010b0300060400010801
+in abis 1 1 0822010b080000
+event confirm 1/1/3 -> owned 1
+event look 1 -> record 1/1/3 on
+in a 9 0019100b030108010a01011d330505010017006605050100170065
+event look 9 -> refused 1
+none free 1
+out a 9 000416040121
+in a 9 0019100b030108010a01021d330505010017006605050100170065
+event look 9 -> refused 1
+out a 9 000416040140
+in a 9 0019100b030108010a01011d330505010017006605050100170063
+event look 9 -> refused 1
+out a 9 000416040151
+end channels=1 calls=1 references=0 timers=0
+",
+);
+
+/// Octets that are no message.
+const UNREADABLE: (&str, &str) = (
+    "abis 0 0 082201
+abis 0 0 04
+a 1 00051b
+a 9 0012100b030108010a01011d3305050100170066
+",
+    "in abis 0 0 082201
+fault abis 5 2
+in abis 0 0 04
+fault abis 1
+in a 1 00051b
+fault a 2
+in a 9 0012100b030108010a01011d3305050100170066
+fault a 4 5
+end channels=0 calls=0 references=0 timers=0
+",
+);
+
+/// A call moves to the other controller, with simulated stations and a simulated switching centre.
+const MOVES: (&str, &str) = (
+    "sim\nopen 1 0 0 3\nhandover 1 64\n",
+    "1: in open 1 0 0 3
+1: event open 1 0/0/3 -> done
+1: out abis 0 0 0821010b0300060400010801
+1: in abis 0 0 0822010b080000
+1: event confirm 0/0/3 -> owned 1
+1: event look 1 -> record 0/0/3 on
+1: in handover 1 64
+1: event look 1 -> record 0/0/3 on
+1: event require 1 -> done
+1: out a 1 000c1104010c1b1a050100170066
+2: in a 40000 0019100b030108010a01011d330505010017006405050100170066
+2: event look 40000 -> refused 1
+2: event take 40000 incoming 0/0/1 -> done
+2: event reserve 40000 0 -> done
+2: event activate 40000 -> done
+2: out abis 0 0 0821010903020604000108010900
+2: in abis 0 0 08220109080000
+2: event confirm 0/0/1 -> owned 40000
+2: event look 40000 -> record - - incoming confirmed 0/0/1 0
+2: event command 40000 -> done
+2: out a 40000 000c121709062b183e09003e0007
+1: in a 1 000c131709062b183e09003e0007
+1: event look 1 -> record 0/0/3 on outgoing required - -
+1: event order 1 -> done
+1: out abis 0 0 0301010b02000b0009062b183e09003e0007
+2: in abis 0 0 082701091100
+2: event detect 0/0/1 -> owned 40000
+2: event look 40000 -> record - - incoming detected 0/0/1 0
+2: out a 40000 00011b
+2: in abis 0 0 0302010902000b0003062c00
+2: event owner 0/0/1 -> owned 40000
+2: event look 40000 -> record - - incoming detected 0/0/1 0
+2: event complete 40000 -> done
+2: out a 40000 0003141500
+1: in a 1 00042004010b
+1: event look 1 -> record 0/0/3 on outgoing ordered - -
+1: event left 1 -> done
+1: out abis 0 0 082e010b
+1: out a 1 000121
+1: in abis 0 0 0833010b
+1: event released 0/0/3 -> done
+1: end channels=0 calls=0 references=0 timers=0
+2: end channels=1 calls=1 references=0 timers=0
+",
+);
+
+/// Scripts with the traces that a person worked out, over one site, and over two.
+const RUNS: &[(Option<&str>, (&str, &str))] = &[
+    (None, ONE_CALL),
+    (None, HANDOVER),
+    (None, TURNED_AWAY),
+    (None, UNREADABLE),
+    (Some(PEER), MOVES),
+];
+
 /// A site, a script with what they print, how that ends, and in how many writes at least.
 const WRITES: &[(&str, (&str, &str), Status, u64)] = &[
     (SITE, ONE_CALL, Status::Done, 13),
+    (SITE, HANDOVER, Status::Done, 28),
     ("", ("", "site 2 handover\n"), Status::Refused, 1),
     ("[", ("", "site 1\n"), Status::Refused, 1),
     (
@@ -48,39 +196,8 @@ fn prints_unless(
     }
 }
 
-/// Whether a run over a heap met no refusal.
-fn runs_over(rt: &impl Abort, alloc: Global, heap: &RefusingHeap) -> Result<bool, Fail> {
-    let (ended, text) = printed(heap, alloc, SITE, None, ONE_CALL.0)?;
-    let expected = if heap.was_refused() {
-        Err(LabFault::NoMemory)
-    } else {
-        Ok(Status::Done)
-    };
-    prints_unless(rt, (ended, text.as_str()), expected, ONE_CALL.1);
-    Ok(expected.is_ok())
-}
-
-/// Whether a run over a heap that refuses this request met no refusal.
-fn runs_without(rt: &impl Abort, alloc: Global, n: u64) -> Result<bool, Fail> {
-    let heap = RefusingHeap::refusing_nth(alloc, n);
-    runs_over(rt, alloc, &heap)
-}
-
-#[test]
-fn each_request_for_memory_is_refused(rt: HostRuntime) -> Result<(), Fail> {
-    let mut tried = 0u64;
-    for n in 1..1000 {
-        if runs_without(&rt, rt.alloc(), n)? {
-            break;
-        }
-        tried = n;
-    }
-    holds_at(&rt, 10 < tried && tried < 999, (tried, "requests"));
-    Ok(())
-}
-
 /// Behind what was printed an input comes next, or the end: of a turn that was cut off nothing is printed.
-pub(super) fn ends_at_a_turn(rt: &impl Abort, text: &str, trace: &str, n: u64) {
+fn ends_at_a_turn(rt: &impl Abort, text: &str, trace: &str, n: u64) {
     let rest = trace.strip_prefix(text).unwrap_or("");
     let line = match rest.split_once(": ") {
         Some(("1" | "2", line)) => line,
@@ -90,26 +207,30 @@ pub(super) fn ends_at_a_turn(rt: &impl Abort, text: &str, trace: &str, n: u64) {
     holds_at(rt, is_so, (n, text));
 }
 
-/// Whether a run over a heap that refuses this request met no refusal. Once memory was refused nothing more is printed.
+/// Whether a run over a heap that refuses this request met no refusal. Once memory was refused nothing more is printed. (A
+/// list is asked for in smaller pieces where a request for it is refused, so that a refused request may be made up for.)
 fn traces_without(
     rt: &impl Abort,
     alloc: Global,
-    script: &str,
-    trace: &str,
+    peer: Option<&str>,
+    (script, trace): (&str, &str),
     n: u64,
 ) -> Result<bool, Fail> {
     let heap = RefusingHeap::refusing_nth(alloc, n);
-    let (ended, text) = printed(&heap, alloc, SITE, None, script)?;
+    let (ended, text) = printed(&heap, alloc, SITE, peer, script)?;
     is_whole_or_cut(rt, &heap, (ended, text.as_str()), trace, n);
     ends_at_a_turn(rt, &text, trace, n);
     Ok(!heap.was_refused())
 }
 
-/// Each request of a trace is refused in turn.
-fn is_traced_without(rt: &(impl AllocGlobal + Abort), trace: &str) -> Result<(), Fail> {
-    let script = script_of(rt.alloc(), trace)?;
+/// Each request of a run is refused in turn.
+fn is_traced_without(
+    rt: &(impl AllocGlobal + Abort),
+    peer: Option<&str>,
+    run: (&str, &str),
+) -> Result<(), Fail> {
     for n in 1..2000 {
-        if traces_without(rt, rt.alloc(), &script, trace, n)? {
+        if traces_without(rt, rt.alloc(), peer, run, n)? {
             holds_at(rt, 10 < n, (n, "requests"));
             return Ok(());
         }
@@ -119,8 +240,8 @@ fn is_traced_without(rt: &(impl AllocGlobal + Abort), trace: &str) -> Result<(),
 
 #[test]
 fn nothing_is_printed_once_memory_was_refused(rt: HostRuntime) -> Result<(), Fail> {
-    for trace in TRACES {
-        is_traced_without(&rt, *trace)?;
+    for (peer, run) in RUNS {
+        is_traced_without(&rt, *peer, *run)?;
     }
     Ok(())
 }
@@ -167,13 +288,5 @@ fn each_write_fails(rt: HostRuntime) -> Result<(), Fail> {
         let tried = failures_of(&rt, *site, *row, *status)?;
         holds_at(&rt, *at_least <= tried, (tried, "writes"));
     }
-    Ok(())
-}
-
-#[test]
-fn each_write_of_a_handover_fails(rt: HostRuntime) -> Result<(), Fail> {
-    let script = script_of(rt.alloc(), HANDOVER)?;
-    let tried = failures_of(&rt, SITE, (script.as_str(), HANDOVER), Status::Done)?;
-    holds_at(&rt, 28 <= tried, (tried, "writes"));
     Ok(())
 }

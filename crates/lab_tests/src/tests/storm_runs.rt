@@ -3,7 +3,7 @@ use super::{equals_at, holds_at, remove_files, write_files};
 use lab::run::{LabFault, Status};
 use lab::storm::{Reached, StormJob, Watch, print_figures, storm_file};
 use lab::storm_run;
-use lab::words::{Job, StormSize, WordsFault, read_words};
+use lab::words::StormSize;
 use radio_desk::audit::Audit;
 use radio_desk::tally::Tally;
 use refusing_heap::{Refusals, RefusingHeap};
@@ -229,32 +229,4 @@ fn a_storm_is_watched(rt: HostRuntime) -> Result<(), Fail> {
     };
     is_watched(&rt, size)?;
     remove_files(&rt, &["storm.toml"])
-}
-
-/// Words of a storm ask for so many workers and calls; or are refused, where nothing is wanted.
-fn asks_for(
-    rt: &(impl AllocGlobal + Abort),
-    workers: &str,
-    calls: &str,
-    wanted: Option<(u8, u16)>,
-) {
-    let words = ["storm", "a.toml", "--workers", workers, "--calls", calls];
-    let found = match read_words(rt.alloc(), &words) {
-        Ok(Job::Storm { site, size }) if site == "a.toml" => Some((size.workers, size.calls)),
-        Ok(_) => Some((0, 0)),
-        Err(WordsFault::Refused(_)) => None,
-        Err(WordsFault::NoMemory) => Some((0, 0)),
-    };
-    equals_at(rt, found, wanted, (workers, calls));
-}
-
-#[test]
-fn words_of_a_storm(rt: HostRuntime) {
-    asks_for(&rt, "1", "1", Some((1, 1)));
-    asks_for(&rt, "16", "1024", Some((16, 1024)));
-    asks_for(&rt, "0", "1", None);
-    asks_for(&rt, "17", "1", None);
-    asks_for(&rt, "1", "0", None);
-    asks_for(&rt, "1", "1025", None);
-    asks_for(&rt, "-1", "1", None);
 }

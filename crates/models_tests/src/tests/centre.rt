@@ -83,7 +83,7 @@ pub(super) const FAILURE_40: &[u8] = b"\x00\x04\x16\x04\x01\x40";
 
 pub(super) const FAILURE_0A: &[u8] = b"\x00\x06\x16\x04\x01\x0a\x15\x00";
 
-pub(super) const REJECT_40: &[u8] = b"\x00\x04\x1a\x04\x01\x40";
+const REJECT_40: &[u8] = b"\x00\x04\x1a\x04\x01\x40";
 
 // CLEAR REQUEST, 'radio interface failure', and CLEAR COMMANDs.
 pub(super) const CLEAR_REQUEST: &[u8] = b"\x00\x04\x22\x04\x01\x01";
@@ -92,7 +92,7 @@ pub(super) const CLEAR_01: &[u8] = b"\x00\x04\x20\x04\x01\x01";
 
 pub(super) const CLEAR_09: &[u8] = b"\x00\x04\x20\x04\x01\x09";
 
-pub(super) const CLEAR_0A: &[u8] = b"\x00\x04\x20\x04\x01\x0a";
+const CLEAR_0A: &[u8] = b"\x00\x04\x20\x04\x01\x0a";
 
 pub(super) const CLEAR_0B: &[u8] = b"\x00\x04\x20\x04\x01\x0b";
 

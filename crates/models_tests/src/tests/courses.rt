@@ -6,7 +6,7 @@ use super::stations::{
 };
 use bts_model::{Act, Habit};
 use channel_fsm::ChanId;
-use sample_sites::{HOME, OTHER, TARGET};
+use sample_sites::{HOME, TARGET};
 use std::test::Fail;
 
 const ACTIVATIONS: &[Row] = &[
@@ -53,99 +53,6 @@ const ACTIVATIONS: &[Row] = &[
 fn channels_are_activated_and_released(rt: HostRuntime) -> Result<(), Fail> {
     play(&rt, 2, ACTIVATIONS)?;
     play(&rt, 0, &[(Send(0, 0, 0, ACTIVATE), &[])])
-}
-
-const HOLDS: &[Row] = &[
-    // one answer is kept, the next isn't; the channel is active all the same
-    (Set(0, HOME, Act::Hold), &[]),
-    (Set(0, OTHER, Act::Hold), &[]),
-    (Send(0, 0, 0, ACTIVATE), &[]),
-    (Send(0, 0, 0, ACTIVATE), &[(0, 0, 0, NACK)]),
-    (Send(1, 0, 0, ACTIVATE), &[(1, 0, 0, ACK)]),
-    (Set(0, HOME, Act::Release), &[(0, 0, 0, ACK)]),
-    (Set(0, HOME, Act::Release), &[]),
-    // a hold that comes later keeps its answer behind the first
-    (Set(0, HOME, Act::Hold), &[]),
-    (Send(0, 0, 0, RELEASE), &[]),
-    (Set(0, HOME, Act::Hold), &[]),
-    (Send(0, 0, 0, ACTIVATE), &[]),
-    (
-        Set(0, HOME, Act::Release),
-        &[(0, 0, 0, RELEASED), (0, 0, 0, ACK)],
-    ),
-    // what is sent ends a hold that has kept nothing too
-    (Set(0, HOME, Act::Hold), &[]),
-    (Set(0, HOME, Act::Release), &[]),
-    (Send(0, 0, 0, RELEASE), &[(0, 0, 0, RELEASED)]),
-    // acknowledgements alone are kept
-    (Set(0, HOME, Act::Refuse), &[]),
-    (Set(0, HOME, Act::Hold), &[]),
-    (Send(0, 0, 0, ACTIVATE), &[(0, 0, 0, NACK)]),
-];
-
-#[test]
-fn a_hold_keeps_one_answer(rt: HostRuntime) -> Result<(), Fail> {
-    play(&rt, 2, HOLDS)
-}
-
-// A refusal of timeslot 3, and a HANDOVER FAILURE there, that are cut.
-const NACK_OF_4: &[u8] = b"\x08\x23\x01\x0b";
-
-const FAILURE_OF_9: &[u8] = b"\x03\x02\x01\x0b\x02\x00\x0b\x00\x03";
-
-const IMPAIRMENTS: &[Row] = &[
-    // the next answer comes twice, and the one behind it once
-    (Set(0, HOME, Act::Double), &[]),
-    (Set(0, HOME, Act::Double), &[]),
-    (Send(0, 0, 0, ACTIVATE_2), &[(0, 0, 0, ACK_2)]),
-    (Send(1, 0, 0, ACTIVATE), &[(1, 0, 0, ACK)]),
-    (Send(0, 0, 0, ACTIVATE), &[(0, 0, 0, ACK), (0, 0, 0, ACK)]),
-    // the last cut counts; it comes before the doubling, and an answer that has no more is left whole
-    (Set(0, HOME, Act::Cut(1)), &[]),
-    (Set(0, HOME, Act::Double), &[]),
-    (Set(0, HOME, Act::Cut(4)), &[]),
-    (
-        Send(0, 0, 0, ACTIVATE),
-        &[(0, 0, 0, NACK_OF_4), (0, 0, 0, NACK_OF_4)],
-    ),
-    (Set(0, HOME, Act::Cut(255)), &[]),
-    (Send(0, 0, 0, ACTIVATE), &[(0, 0, 0, NACK)]),
-    (Set(0, HOME, Act::Cut(4)), &[]),
-    (Send(0, 0, 0, RELEASE), &[(0, 0, 0, RELEASED)]),
-    // an answer that is kept isn't doubled until it is let go
-    (Set(0, HOME, Act::Hold), &[]),
-    (Set(0, HOME, Act::Double), &[]),
-    (Send(0, 0, 0, ACTIVATE), &[]),
-    (
-        Set(0, HOME, Act::Release),
-        &[(0, 0, 0, ACK), (0, 0, 0, ACK)],
-    ),
-    // and what leaves before it uses that up
-    (Set(0, HOME, Act::Hold), &[]),
-    (Set(0, HOME, Act::Double), &[]),
-    (Send(0, 0, 0, RELEASE), &[]),
-    (Send(0, 0, 0, ACTIVATE), &[(0, 0, 0, ACK), (0, 0, 0, ACK)]),
-    (Set(0, HOME, Act::Release), &[(0, 0, 0, RELEASED)]),
-    // of an arrival the first of two answers of the new channel, of a return the one of the old
-    (Send(0, 1, 1, ACTIVATE_42), &[(0, 1, 1, ACK)]),
-    (Set(0, TARGET, Act::Double), &[]),
-    (Set(0, HOME, Act::Cut(9)), &[]),
-    (
-        Send(0, 0, 0, COMMAND),
-        &[
-            (0, 1, 1, DETECTION),
-            (0, 1, 1, DETECTION),
-            (0, 1, 1, COMPLETE),
-        ],
-    ),
-    (Send(0, 1, 1, RELEASE), &[(0, 1, 1, RELEASED)]),
-    (Send(0, 0, 0, COMMAND), &[(0, 0, 0, FAILURE_OF_9)]),
-    (Send(0, 0, 0, COMMAND), &[(0, 0, 0, FAILURE)]),
-];
-
-#[test]
-fn an_answer_is_cut_and_doubled_once(rt: HostRuntime) -> Result<(), Fail> {
-    play(&rt, 2, IMPAIRMENTS)
 }
 
 const ARRIVAL: &[Out] = &[(0, 1, 1, DETECTION), (0, 1, 1, COMPLETE)];

@@ -1,11 +1,9 @@
-//! Messages in words, and their fields. What is written for each message, and why a text says none, `tests/commands` shows.
+//! Messages in words, and their fields, where memory is refused. What is written for each message, and why a text says none,
+//! `tests/commands` shows.
 use super::{Fail, Global, RefusingHeap, equals, equals_at, holds_at};
 use encoded_messages::{
-    FieldFault, MessageFault, cell_in, encode_a, encode_abis, encode_rr, flag, leading_value,
-    name_and_fields, neighbour_in, number, octet, octets, only_keys, optional_octet,
-    optional_octets, small, traffic_channel, value,
+    FieldFault, MessageFault, encode_a, encode_abis, encode_rr, octets, optional_octets,
 };
-use rsl_messages::Sub;
 use std::alloc::Allocator;
 use std::process::Abort;
 
@@ -67,66 +65,6 @@ fn texts_are_written_unless_memory_is_refused(rt: HostRuntime) -> Result<(), Fai
     Ok(())
 }
 
-/// Fronts of messages on A, what stands twenty thousand times behind each, and why the text is no message.
-const MANY: &[(&str, &str, &str)] = &[
-    ("CLEAR COMMAND cause=9", " cause=9", "cause stands twice"),
-    ("HANDOVER FAILURE rr=1", " rr=1", "cause is missing"),
-    (
-        "HANDOVER REQUIRED cause=12 response=1 cells=23/102",
-        ",23/102",
-        "the message can't be written: it, or a list of octets in it, is too long",
-    ),
-    (
-        "HANDOVER REQUIRED cause=12 response=1 cells=",
-        "23/102,",
-        "cells is a list of cells with their location areas, as in 23/102,23/103, found \"23/102,23/102,23/102,23/102,23/102,23/102,23/102,23/102,23/1\"..",
-    ),
-    (
-        "CLEAR COMMAND",
-        "S",
-        "\"CLEAR COMMANDSSSSSSSSSSSSSSSSSSSSSSSSSSSSSSSSSSSSSSSSSSSSSSS\".. is no message of the link",
-    ),
-];
-
-/// A text of a front and very many parts is refused, with this reason.
-fn is_refused(
-    rt: &impl Abort,
-    alloc: Global,
-    (front, part, wanted): (&str, &str, &str),
-) -> Result<(), Fail> {
-    let parts = part.repeat(alloc, 20_000)?;
-    let text = format!(in alloc; "{front}{parts}")?;
-    let fault = encode_a(alloc, text.as_str()).err().expect(rt, wanted);
-    equals(rt, fault.to_string(alloc)?.as_str(), wanted);
-    Ok(())
-}
-
-#[test]
-fn long_texts_of_no_message(rt: HostRuntime) -> Result<(), Fail> {
-    for row in MANY {
-        is_refused(&rt, rt.alloc(), *row)?;
-    }
-    Ok(())
-}
-
-#[test]
-fn fields_are_read(rt: HostRuntime) {
-    let (name, fields) = name_and_fields("CLEAR COMMAND a=1 b= n=7 n=8");
-    equals(&rt, (name, fields), ("CLEAR COMMAND", "a=1 b= n=7 n=8"));
-    equals(&rt, only_keys(fields, "a b n"), Ok(()));
-    equals(&rt, value(fields, "b"), Ok(""));
-    equals(&rt, leading_value(fields, "n"), Some(("7", "n=8")));
-    equals(&rt, number(fields, "a", 65535), Ok(1));
-    equals(&rt, small(fields, "a", 7), Ok(1));
-    equals(&rt, octet(fields, "a"), Ok(1));
-    equals(&rt, traffic_channel(fields, "a"), Ok((1, Sub::Full)));
-    equals(&rt, traffic_channel("tn=7/1", "tn"), Ok((7, Sub::Half1)));
-    equals(&rt, optional_octet("k=-", "k"), Ok(None));
-    equals(&rt, flag(fields, "a"), Ok(true));
-    equals(&rt, cell_in("23/65535"), Some((23, 65535)));
-    equals(&rt, neighbour_in("63/31/63"), Some((63, 31, 63)));
-}
-
 #[test]
 fn octets_of_fields(rt: HostRuntime) {
     let alloc = rt.alloc();
@@ -139,33 +77,4 @@ fn octets_of_fields(rt: HostRuntime) {
     equals(&rt, refused, Some(FieldFault::NoMemory));
     let refused = optional_octets(&heap, "k=06", "k", 1).err();
     equals(&rt, refused, Some(FieldFault::NoMemory));
-}
-
-/// A word that isn't a flag is shown so.
-fn is_shown(rt: &impl Abort, alloc: Global, fields: &str, wanted: &str) -> Result<(), Fail> {
-    let fault = flag(fields, "k").err().expect(rt, wanted);
-    let wanted = format!(in alloc; "k is 0 or 1, found {wanted}")?;
-    equals(rt, fault.to_string(alloc)?.as_str(), wanted.as_str());
-    Ok(())
-}
-
-/// Fields, and how the word is shown: sixty characters of it.
-const SHOWN: &[(&str, &str)] = &[
-    ("k=2\t", "\"2\\t\""),
-    (
-        "k=ä23456789€ä23456789€ä23456789€ä23456789€ä23456789€ä23456789",
-        "\"ä23456789€ä23456789€ä23456789€ä23456789€ä23456789€ä23456789\"",
-    ),
-    (
-        "k=\tä23456789€ä23456789€ä23456789€ä23456789€ä23456789€ä23456789€",
-        "\"\\tä23456789€ä23456789€ä23456789€ä23456789€ä23456789€ä23456789\"..",
-    ),
-];
-
-#[test]
-fn long_words_are_cut(rt: HostRuntime) -> Result<(), Fail> {
-    for (fields, wanted) in SHOWN {
-        is_shown(&rt, rt.alloc(), *fields, *wanted)?;
-    }
-    Ok(())
 }

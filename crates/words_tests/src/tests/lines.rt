@@ -1,101 +1,16 @@
-//! Messages in the lines of a file. What is said of more of them, `tests/commands/octet_lines.t` shows.
-use super::{Fail, Global, RefusingHeap, equals_at, holds_at};
-use decoded_lines::{
-    Asked, Counts, Detail, LinesFault, LinkName, answer_file, answer_lines, link_named,
-    print_a_unused, print_abis_unused, print_rr_rest,
-};
+//! Messages in the lines of a file, where memory is refused, a read or a write fails. What is said of them,
+//! `tests/commands/octet_lines.t` shows.
+use super::{Fail, RefusingHeap, equals_at, holds_at};
+use decoded_lines::{Asked, Detail, LinesFault, answer_file, answer_lines};
 use std::io::{self, Write};
 use std::process::Abort;
-use std::rt::Files;
-use std::{fs, str};
-
-/// Asserts what is answered to lines, and how many were messages and were refused.
-fn answers(
-    rt: &(impl Abort + AllocGlobal),
-    link: Option<LinkName>,
-    lines: &[u8],
-    text: &str,
-    counts: (u64, u64),
-) -> Result<(), Fail> {
-    let mut out = Vec::new(rt.alloc());
-    let mut reader = lines;
-    let asked = Asked {
-        link,
-        detail: Detail::Fields,
-    };
-    match answer_lines(rt.alloc(), asked, &mut reader, &mut out) {
-        Ok(Counts { messages, refused }) => equals_at(rt, (messages, refused), counts, text),
-        Err(_) => holds_at(rt, false, text),
-    }
-    equals_at(rt, str::from_utf8(&out)?, text, link);
-    Ok(())
-}
+use std::str;
 
 /// Each message with its own link, and no more than its fields.
 const FIELDS: Asked = Asked {
     link: None,
     detail: Detail::Fields,
 };
-
-/// Asserts what is answered to a file, or to these octets where its path is `-`, and what is said of errors.
-fn answers_file(
-    rt: &(impl Files + AllocGlobal + Abort),
-    path: &str,
-    input: &[u8],
-    wanted: bool,
-    (text, said): (&str, &str),
-) -> Result<(), Fail> {
-    let mut out = Vec::new(rt.alloc());
-    let mut errors = Vec::new(rt.alloc());
-    let ended = answer_file(rt, FIELDS, path, input, &mut out, &mut errors);
-    equals_at(rt, (ended, str::from_utf8(&out)?), (Ok(wanted), text), path);
-    equals_at(rt, str::from_utf8(&errors)?, said, path);
-    Ok(())
-}
-
-#[test]
-fn files_are_answered(rt: HostRuntime) -> Result<(), Fail> {
-    let said = (
-        "1 HANDOVER COMPLETE cause=0\n2 hex\n",
-        "-: messages 1, refused 1\n",
-    );
-    answers_file(&rt, "-", b"rr 062c00\nrr 0\n# note\n", false, said)?;
-    let said = ("file no such file\n", "no such file: no such file\n");
-    answers_file(&rt, "no such file", b"", false, said)?;
-    fs::write(&rt, "messages.txt", "rr 062c00\nabis 082e010b\n")?;
-    let said = (
-        "1 HANDOVER COMPLETE cause=0\n2 RF CHANNEL RELEASE tn=3\n",
-        "messages.txt: messages 2, refused 0\n",
-    );
-    answers_file(&rt, "messages.txt", b"rr 0", true, said)?;
-    fs::remove_file(&rt, "messages.txt")?;
-    equals_at(&rt, link_named(b"abis"), Some(LinkName::Abis), "abis");
-    Ok(())
-}
-
-/// A line of so many octets, and one behind it.
-fn after_long_line(alloc: Global, count: usize) -> Result<String, Fail> {
-    let mut text = "8".repeat(alloc, count)?;
-    text.push_str("\n062c00\n")?;
-    Ok(text)
-}
-
-/// So many octets in a line, and the answer: the longest line, in which no message fits; above it, and much above it.
-const LONG_LINES: &[(usize, &str)] = &[
-    (65_536, "1 fault rr 1"),
-    (65_537, "1 long"),
-    (1 << 20, "1 long"),
-];
-
-#[test]
-fn long_lines_are_passed_over(rt: HostRuntime) -> Result<(), Fail> {
-    for (count, answer) in LONG_LINES {
-        let lines = after_long_line(rt.alloc(), *count)?;
-        let text = format!(in rt.alloc(); "{answer}\n2 HANDOVER COMPLETE cause=0\n")?;
-        answers(&rt, Some(LinkName::Rr), lines.as_bytes(), &text, (1, 1))?;
-    }
-    Ok(())
-}
 
 /// A reader that gives a line, and fails behind it.
 #[derive(Drop)]
@@ -214,26 +129,4 @@ fn each_request_for_memory_is_refused(rt: HostRuntime) -> Result<(), Fail> {
         }
     }
     Err(Fail::from("two hundred requests"))
-}
-
-/// Prints what three messages don't use: an element that comes again, a layer 3 header and a second cause, a rest.
-fn print_unused(alloc: Global, out: &mut Vec<u8>) -> Result<(), Fail> {
-    let octets = b"\x08\x2e\x01\x0b\x01\x0c";
-    let release = rsl_messages::decode(alloc, octets)?;
-    print_abis_unused(&release, octets, out)?;
-    let octets = b"\x00\x0b\x20\x07\x02\x06\x03\x04\x01\x09\x04\x01\x0a";
-    let clear = bssmap_messages::decode(alloc, octets)?;
-    print_a_unused(&clear, octets, out)?;
-    let octets = b"\x06\x2c\x00\x77\x0a";
-    print_rr_rest(&rr_messages::decode(octets)?, octets, out)?;
-    Ok(())
-}
-
-#[test]
-fn what_a_message_does_not_use(rt: HostRuntime) -> Result<(), Fail> {
-    let mut out = Vec::new(rt.alloc());
-    print_unused(rt.alloc(), &mut out)?;
-    let wanted = " unused=01/0c unused=07/0603 unused=04/0a rest=770a";
-    equals_at(&rt, str::from_utf8(&out)?, wanted, "unused");
-    Ok(())
 }

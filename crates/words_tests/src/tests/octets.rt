@@ -1,28 +1,8 @@
 //! Lines of octets, one by one from a reader.
-use super::{Fail, Global, RefusingHeap, equals, equals_at, holds_at};
-use decoded_lines::{
-    Found, LONGEST_LINE, is_blank, next_line, read_octets, said_in, text_and_note, without_return,
-    word_and_rest,
-};
+use super::{Fail, RefusingHeap, equals, equals_at, holds_at};
+use decoded_lines::{Found, next_line, read_octets};
 use std::io::{self, BufRead, Read};
 use std::process::Abort;
-
-#[test]
-fn a_line_is_read(rt: HostRuntime) -> Result<(), Fail> {
-    let (text, note) = text_and_note(b"abis 08:2E 01 # a note");
-    equals(&rt, note, Some(b" a note".as_slice()));
-    let (word, rest) = word_and_rest(text);
-    equals(&rt, word, b"abis".as_slice());
-    let octets = read_octets(rt.alloc(), rest)?;
-    equals(&rt, octets.as_deref(), Some(b"\x08\x2e\x01".as_slice()));
-    let none = read_octets(rt.alloc(), b"08 2")?;
-    holds_at(&rt, none.is_none(), "half an octet");
-    equals(&rt, said_in(b"08\r"), Some((b"08".as_slice(), None)));
-    holds_at(&rt, said_in(b" \t# a note\r").is_none(), "nothing is said");
-    equals(&rt, without_return(b"08\r\r"), b"08\r".as_slice());
-    holds_at(&rt, is_blank(b" \t") && !is_blank(b":"), "blanks");
-    Ok(())
-}
 
 #[test]
 fn memory_is_refused(rt: HostRuntime) {
@@ -72,34 +52,6 @@ fn lines_in_parts(rt: HostRuntime) -> Result<(), Fail> {
         gives(&rt, &mut reader, &mut line, wanted)?;
     }
     equals(&rt, next_line(&mut reader, &mut line)?, Found::End);
-    Ok(())
-}
-
-/// A text of so many octets, and a line behind it.
-fn long_text(alloc: Global, count: usize) -> Result<String, Fail> {
-    let mut text = "0".repeat(alloc, count)?;
-    text.push_str("\n2e")?;
-    Ok(text)
-}
-
-/// So many octets in a line, and what the reader gives: the longest line, lines above it, and one of a megabyte.
-const LENGTHS: &[(usize, Found)] = &[
-    (65_536, Found::Line),
-    (65_537, Found::TooLong),
-    (1 << 20, Found::TooLong),
-];
-
-#[test]
-fn lines_up_to_the_longest_and_above(rt: HostRuntime) -> Result<(), Fail> {
-    equals(&rt, LONGEST_LINE, 65_536);
-    let mut line = Vec::new(rt.alloc());
-    for (count, wanted) in LENGTHS {
-        let text = long_text(rt.alloc(), *count)?;
-        let mut reader: &[u8] = text.as_bytes();
-        equals_at(&rt, next_line(&mut reader, &mut line)?, *wanted, count);
-        holds_at(&rt, line.len() <= 65_537, count);
-        gives(&rt, &mut reader, &mut line, b"2e")?;
-    }
     Ok(())
 }
 
