@@ -6,7 +6,7 @@ use Rattle.radio_desk.specs.Desk.{DeskState}
 use Rattle.ho_procedure.specs.Claims.{Entry, Claim, NoneFree, Chosen, Opening, UnknownReceipt, MayBeRefused, TakeMayBeRefused, IsTrueAfter}
 use Rattle.lab_runs.specs.declared.noting.Note.{Note}
 use Rattle.lab_runs.specs.Notes.{NotingState, IsTrueNote}
-use Rattle.lab_runs.specs.Turns.{says}
+use Rattle.lab_runs.specs.Turns.{IsSaidAfter, says}
 
 -- what is true of the book that it opened with now was true before
 pub opens_as_before : (d d' : DeskState) → ((es : List Entry) → (claim : Claim) → IsTrueAfter d'.opening es claim → IsTrueAfter d.opening es claim) → d'.opening ≡ d.opening
@@ -15,15 +15,15 @@ opens_as_before d d' said = said [] (Opening d'.opening) refl
 pub view_opens_as_before : (v v' : NotingState) → ((es : List Entry) → (claim : Claim) → says v' es claim → says v es claim) → v'.desk.opening ≡ v.desk.opening
 view_opens_as_before v v' said = said [] (Opening v'.desk.opening) refl
 
--- what the view said is as true as what its desk did
-pub still_says : (v v' : NotingState) → ((es : List Entry) → (claim : Claim) → IsTrueAfter v'.desk.opening es claim → IsTrueAfter v.desk.opening es claim)
-    → (es : List Entry) → (claim : Claim) → says v' es claim → says v es claim
-still_says v v' said es (NoneFree cell rate) h = said es (NoneFree cell rate) h
-still_says v v' said es (Chosen e) h = said es (Chosen e) h
-still_says v v' said es (Opening book) h = said es (Opening book) h
-still_says v v' said es (UnknownReceipt place) h = said es (UnknownReceipt place) h
-still_says v v' said es (MayBeRefused e) h = said es (MayBeRefused e) h
-still_says v v' said es (TakeMayBeRefused cell rate) h = tt
+-- what a view said is as true as what its desk did
+pub still_says : (d d' : DeskState) → ((es : List Entry) → (claim : Claim) → IsTrueAfter d'.opening es claim → IsTrueAfter d.opening es claim)
+    → (es : List Entry) → (claim : Claim) → IsSaidAfter d'.opening es claim → IsSaidAfter d.opening es claim
+still_says d d' said es (NoneFree cell rate) h = said es (NoneFree cell rate) h
+still_says d d' said es (Chosen e) h = said es (Chosen e) h
+still_says d d' said es (Opening book) h = said es (Opening book) h
+still_says d d' said es (UnknownReceipt place) h = said es (UnknownReceipt place) h
+still_says d d' said es (MayBeRefused e) h = said es (MayBeRefused e) h
+still_says d d' said es (TakeMayBeRefused cell rate) h = tt
 
 stays_true : (d d' : DeskState) (more : List Entry) (n : Note) → d'.opening ≡ d.opening → d'.history ≡ d.history ++ more → IsTrueNote d n → IsTrueNote d' n
 stays_true d d' more n opening grown h = record {

@@ -24,6 +24,7 @@ use Rattle.lab_runs.specs.declared.turn.Source.TheVariants.{Script, Simulator}
 use Rattle.lab_runs.specs.declared.turn.Answer.{Answer}
 use Rattle.lab_runs.specs.declared.turn.Answer.TheVariants.{Sent, Undecoded}
 use Rattle.lab_runs.specs.declared.turn.Turn.{Turn}
+use Rattle.radio_book.specs.State.{State}
 use Rattle.lab_runs.specs.Notes.{NotingState, with_notes, AreTrueSteps}
 
 -- a controller between two inputs: its desk with notes, the last reports of each call, and its site
@@ -41,14 +42,18 @@ asked_in steps = filter_map entry_of steps
 abbrev pub history_of : NotingState → List Entry
 history_of view = view.desk.history
 
--- what is true of the desk's book; and that memory may be refused wherever a channel is taken, for a note
+-- What a view says that began with this book: what is true of the book that the entries lead to; and that memory may be refused
+-- wherever a channel is taken, for a note.
+abbrev pub IsSaidAfter : State → List Entry → Claim → Type 0
+IsSaidAfter opening log (claim.NoneFree cell rate) = IsTrueAfter opening log (claim.NoneFree cell rate)
+IsSaidAfter opening log (claim.Chosen e) = IsTrueAfter opening log (claim.Chosen e)
+IsSaidAfter opening log (claim.Opening book) = IsTrueAfter opening log (claim.Opening book)
+IsSaidAfter opening log (claim.UnknownReceipt place) = IsTrueAfter opening log (claim.UnknownReceipt place)
+IsSaidAfter opening log (claim.MayBeRefused e) = IsTrueAfter opening log (claim.MayBeRefused e)
+IsSaidAfter opening log (claim.TakeMayBeRefused cell rate) = Unit {0}
+
 abbrev pub says : NotingState → List Entry → Claim → Type 0
-says view log (claim.NoneFree cell rate) = IsTrueAfter view.desk.opening log (claim.NoneFree cell rate)
-says view log (claim.Chosen e) = IsTrueAfter view.desk.opening log (claim.Chosen e)
-says view log (claim.Opening book) = IsTrueAfter view.desk.opening log (claim.Opening book)
-says view log (claim.UnknownReceipt place) = IsTrueAfter view.desk.opening log (claim.UnknownReceipt place)
-says view log (claim.MayBeRefused e) = IsTrueAfter view.desk.opening log (claim.MayBeRefused e)
-says view log (claim.TakeMayBeRefused cell rate) = Unit {0}
+says view log claim = IsSaidAfter view.desk.opening log claim
 
 -- A controller answers an input so: it follows the input's row, and sends these messages; or the input has this fault, and
 -- nothing changes.

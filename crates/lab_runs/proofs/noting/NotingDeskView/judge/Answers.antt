@@ -8,7 +8,7 @@ invariant_of-self g c =
     (λ x is. (rw is at c.judge.ensures.ok).1) c.judge.ensures.err c.self.invariant
 
 pub returns-clause-said : goal.returns-clause-said
-returns-clause-said g c = rw (← c.self.view_is) (still_says _ _ c.judge.ensures.said)
+returns-clause-said g c = rw (← c.self.view_is) (still_says c.self.inside.solo c.judge.new.self c.judge.ensures.said)
 
 pub returns-clause-memory : goal.returns-clause-memory
 returns-clause-memory g c = rw (← c.self.view_is) c.judge.ensures.memory

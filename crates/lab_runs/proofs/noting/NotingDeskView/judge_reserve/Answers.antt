@@ -11,7 +11,7 @@ pub returns-clause-ok : goal.returns-clause-ok
 returns-clause-ok g c = rw (← c.self.view_is) c.judge_reserve.ensures.ok
 
 pub returns-clause-said : goal.returns-clause-said
-returns-clause-said g c = rw (← c.self.view_is) (still_says _ _ c.judge_reserve.ensures.said)
+returns-clause-said g c = rw (← c.self.view_is) (still_says c.self.inside.solo c.judge_reserve.new.self c.judge_reserve.ensures.said)
 
 pub returns-clause-memory : goal.returns-clause-memory
 returns-clause-memory g c = rw (← c.self.view_is) c.judge_reserve.ensures.memory

@@ -24,19 +24,19 @@ invariant_of-self-in-None g c =
     (one_more_true c.self.inside.solo c.judge_take.new.self c.self.inside.notes.items _ c.judge_take.ensures.said none.0 place none.1 c.self.invariant)
 
 pub returns-in_err-reserve-clause-said : goal.returns-in_err-reserve-clause-said
-returns-in_err-reserve-clause-said g c = rw (← c.self.view_is) (still_says _ _ (λ es claim holds. holds))
+returns-in_err-reserve-clause-said g c = rw (← c.self.view_is) (still_says c.self.inside.solo c.self.inside.solo (λ es claim holds. holds))
 
 pub returns-in_err-receipt-clause-said : goal.returns-in_err-receipt-clause-said
-returns-in_err-receipt-clause-said g c = rw (← c.self.view_is) (still_says _ _ c.judge_take.ensures.said)
+returns-in_err-receipt-clause-said g c = rw (← c.self.view_is) (still_says c.self.inside.solo c.judge_take.new.self c.judge_take.ensures.said)
 
 pub returns-in-Some-clause-ok : goal.returns-in-Some-clause-ok
 returns-in-Some-clause-ok g c = rw (← c.self.view_is) (rw c.in-Some.is at c.in_ok-receipt.ensures.ok)
 
 pub returns-in-Some-clause-said : goal.returns-in-Some-clause-said
-returns-in-Some-clause-said g c = rw (← c.self.view_is) (still_says _ _ c.judge_take.ensures.said)
+returns-in-Some-clause-said g c = rw (← c.self.view_is) (still_says c.self.inside.solo c.judge_take.new.self c.judge_take.ensures.said)
 
 pub returns-in-None-clause-ok : goal.returns-in-None-clause-ok
 returns-in-None-clause-ok g c = rw (← c.self.view_is) (rw c.in-None.is at c.in_ok-receipt.ensures.ok)
 
 pub returns-in-None-clause-said : goal.returns-in-None-clause-said
-returns-in-None-clause-said g c = rw (← c.self.view_is) (still_says _ _ c.judge_take.ensures.said)
+returns-in-None-clause-said g c = rw (← c.self.view_is) (still_says c.self.inside.solo c.judge_take.new.self c.judge_take.ensures.said)
