@@ -213,6 +213,8 @@ class Relay:
         if stream != station.trx:
             station.passed[f"stream {stream:02x}"] += 1
         elif not rsl.is_taken(message):
+            if rsl.is_error_report(message):
+                say(f"{station}: ERROR REPORT, it took a message for wrong: {message[:20].hex()}")
             station.passed[rsl.kind(message)] += 1
         elif len(message) > rsl.LONGEST:
             say(f"{station}: a message of {len(message)} octets is passed over, it has no room in a line")

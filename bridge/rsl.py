@@ -12,6 +12,8 @@ ACTIVATION_NACK = 0x23
 CONNECTION_FAILURE = 0x24
 RELEASE = 0x2E
 RELEASE_ACK = 0x33
+# The discriminator of TRX management, and of it the message by which a station says that it took one for wrong (clause 8.6.4).
+TRX_MANAGEMENT, ERROR_REPORT = 0x10, 0x1C
 # A cause, behind its identifier and its length: equipment failure.
 FAILURE = b"\x1a\x01\x20"
 # How many octets of a message a script line has room for.
@@ -21,6 +23,11 @@ LONGEST = 32_000
 def is_taken(message):
     """Whether a controller takes messages like this one."""
     return len(message) >= 2 and message[0] & 0xFE in TAKEN
+
+
+def is_error_report(message):
+    """Whether a station says that it took a message for wrong."""
+    return len(message) >= 2 and message[0] & 0xFE == TRX_MANAGEMENT and message[1] == ERROR_REPORT
 
 
 def kind(message):
