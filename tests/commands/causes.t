@@ -408,6 +408,16 @@ Others are reserved.
   $ ./lab explain cause abis 255
   reserved
 
+All others are reserved: of 256 causes on A 63 have a name, of the radio path 20, on Abis 33.
+
+  $ named() { for cause in $(seq 0 255); do ./lab explain cause "$1" "$cause"; done | grep -vc '^reserved$'; }
+  $ named a
+  63
+  $ named rr
+  20
+  $ named abis
+  33
+
 The refusals, by their numbers in a trace.
 
   $ ./lab explain refused 1

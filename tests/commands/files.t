@@ -229,3 +229,22 @@ of direction and of variation, tags), and those beside them, which stand as they
   > e0000 e007f
   > e0100 e01ef
   > END
+
+A standard stream that is closed is no file, by its path either.
+
+  $ ./lab audit examples/two_cells.toml /dev/stdin <&- 2>errors
+  file /dev/stdin
+  [2]
+  $ ./lab run examples/two_cells.toml /dev/stdin <&- 2>errors
+  file /dev/stdin
+  [2]
+  $ ./lab decode --from /dev/stdin <&- 2>errors
+  file /dev/stdin
+  [2]
+  $ ./lab run examples/two_cells.toml examples/one_call.txt --pcap /dev/stdin <&- 2>errors
+  file /dev/stdin
+  [2]
+  $ ./lab run examples/two_cells.toml examples/one_call.txt --chart /dev/stdout >&- 2>errors
+  [2]
+  $ ./lab run examples/two_cells.toml examples/one_call.txt --chart /dev/stderr 2>&-
+  [2]

@@ -2,25 +2,25 @@
 //!
 //! A file that is opened gets the lowest number that is free. Where a standard stream was closed before the program began,
 //! that is the stream's own: what is printed would stand in the file.
-use std::fs::{File, OpenOptions};
+use std::fs::File;
 use std::io;
 use std::os::fd::{AsRawFd, RawFd};
 
-/// What is opened in the place of a stream. It holds nothing, and is there on each system.
-const DEVICE: &str = "/dev/null";
+/// What is opened in the place of a stream: a folder, which each system has. Nothing is read from one, and nothing written to
+/// it, also where it is opened once more by a path, as `/dev/stdin`.
+const FOLDER: &str = "/";
 
 /// Has the places of the standard streams that are closed, as long as it is there, so that no other file gets them. They stay
-/// as good as closed: standard input is open for writing alone then, the other two for reading alone.
+/// as good as closed: whatever reads or writes there fails.
 #[derive(Drop)]
 pub struct Places {
-    input: Option<File>,
-    /// Of standard output and standard error, where both are closed; else of the one that is.
-    output: Option<File>,
-    /// Of standard error, where both are closed.
-    errors: Option<File>,
+    // of the one with the lowest number, and of those behind it, where more are closed
+    first: Option<File>,
+    second: Option<File>,
+    third: Option<File>,
 }
 
-/// A file that was opened, where its number is none above the last of the streams that may be closed.
+/// A file that was opened, where its number is none above the last of the streams.
 fn kept(opened: io::Result<File>, last: RawFd) -> Option<File> {
     let file = opened.ok()?;
     if file.as_raw_fd() <= last {
@@ -31,13 +31,13 @@ fn kept(opened: io::Result<File>, last: RawFd) -> Option<File> {
 }
 
 impl Places {
-    /// Takes the places of those that are closed. Where the device can't be opened none is taken.
+    /// Takes the places of those that are closed. Where the folder can't be opened none is taken.
     pub fn taken(rt: &HostRuntime) -> Places {
-        let (first, last) = (rt.stdin().as_raw_fd(), rt.stderr().as_raw_fd());
+        let last = rt.stderr().as_raw_fd();
         Places {
-            input: kept(OpenOptions::new().write(true).open(rt, DEVICE), first),
-            output: kept(File::open(rt, DEVICE), last),
-            errors: kept(File::open(rt, DEVICE), last),
+            first: kept(File::open(rt, FOLDER), last),
+            second: kept(File::open(rt, FOLDER), last),
+            third: kept(File::open(rt, FOLDER), last),
         }
     }
 }
