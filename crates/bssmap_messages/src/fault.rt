@@ -1,5 +1,5 @@
 //! Why octets are no message.
-ghost use Rattle.std.specs.Prelude.{◌≡◌};
+ghost use Rattle.std.specs.Prelude.{◌≡◌, ◌↔◌, IsTrue};
 ghost use Rattle.bssmap_messages.specs.declared.fault.BssmapFault.TheVariants.{NoMemory};
 ghost use Rattle.bssmap_messages.specs.Values.{fault_of};
 
@@ -33,6 +33,23 @@ pub enum BssmapFault {
     /// Memory ran out.
     #[error("memory was refused")]
     NoMemory,
+}
+
+impl BssmapFault {
+    /// Memory was refused: the octets may be a message.
+    pub fn is_memory(self) -> bool
+        ensures { IsTrue result ↔ (self ≡ NoMemory) }
+    {
+        match self {
+            Self::NoMemory => true,
+            Self::NotBssmap
+            | Self::Length
+            | Self::UnknownType(_)
+            | Self::Missing(_)
+            | Self::BadElement(_)
+            | Self::Torn(_) => false,
+        }
+    }
 }
 
 impl From<AllocError> for BssmapFault {

@@ -8,10 +8,11 @@ use Rattle.std.proofs.lemmas.List.Elements.{All-head, All-tail}
 use Rattle.std.proofs.lemmas.List.Folds.{list_any-append}
 use Rattle.std.proofs.lemmas.List.Sums.{sum_by-cons, sum_by-append}
 use Rattle.std.specs.List.{range_with_len, AllByRecursion}
-use Rattle.channel_fsm.specs.declared.Sub.{Sub}
-use Rattle.channel_fsm.specs.declared.Sub.TheVariants.{Full, Half0, Half1}
+use Rattle.timeslots.specs.declared.Sub.{Sub}
+use Rattle.timeslots.specs.declared.Sub.TheVariants.{Full, Half0, Half1}
 use Rattle.channel_fsm.specs.declared.ChanId.{ChanId}
-use Rattle.channel_fsm.specs.Keys.{sub_number, same_chan}
+use Rattle.channel_fsm.specs.Keys.{same_chan}
+use Rattle.timeslots.specs.Parts.{sub_number}
 use Rattle.channel_fsm.proofs.KeyFacts.{same_chan_itself, other_chan}
 use Rattle.cell_table.specs.declared.fault.Key.TheVariants as key
 use Rattle.cell_table.specs.Ranges.{IsAllowed}

@@ -2,10 +2,10 @@
 -- they find is said in `Site` and `Neighbours`.
 use Rattle.std.specs.Prelude.{ℕ, ◌==◌, ◌+◌, ◌*◌, ◌-◌, ◌/◌, ◌%◌, Bool, false, ◌&&◌, ◌||◌, not, nat_lt, if◌then◌else◌, List, [], ◌∷◌, take, sum_by, count_by, length, Option, Some, None, option_map, option_and_then, slice_get, unwrap_or, find}
 use Rattle.std.specs.List.{list_any, position}
-use Rattle.channel_fsm.specs.declared.Sub.{Sub}
-use Rattle.channel_fsm.specs.declared.Sub.TheVariants.{Full, Half0, Half1}
+use Rattle.timeslots.specs.declared.Sub.{Sub}
+use Rattle.timeslots.specs.declared.Sub.TheVariants.{Full, Half0, Half1}
 use Rattle.channel_fsm.specs.declared.ChanId.{ChanId}
-use Rattle.channel_fsm.specs.Keys.{sub_number}
+use Rattle.timeslots.specs.Parts.{sub_number}
 use Rattle.cell_table.specs.declared.tables.CellIdentity.{CellIdentity}
 use Rattle.cell_table.specs.Views.{TrxView, CellView, SiteView}
 use Rattle.cell_table.specs.Limits.{first_outside}

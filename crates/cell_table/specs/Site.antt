@@ -1,8 +1,8 @@
 -- What a site is, and what is looked up in it.
 use Rattle.std.specs.Prelude.{ℕ, ◌==◌, ◌<◌, ◌≤◌, ◌≡◌, ◌-◌, Bool, true, false, nat_lt, if◌then◌else◌, List, [], ◌∷◌, length, map, filter, flat_map, All, Option, Some, None, slice_get, option_map, option_and_then, unwrap_or}
 use Rattle.std.specs.List.{list_any, position, range_with_len}
-use Rattle.channel_fsm.specs.declared.Sub.{Sub}
-use Rattle.channel_fsm.specs.declared.Sub.TheVariants.{Full, Half0, Half1}
+use Rattle.timeslots.specs.declared.Sub.{Sub}
+use Rattle.timeslots.specs.declared.Sub.TheVariants.{Full, Half0, Half1}
 use Rattle.channel_fsm.specs.declared.ChanId.{ChanId}
 use Rattle.channel_fsm.specs.Keys.{same_chan}
 use Rattle.cell_table.specs.declared.tables.CellIdentity.{CellIdentity}

@@ -4,7 +4,7 @@ use Rattle.std.specs.Prelude.{ℕ, ◌==◌, Bool, if◌then◌else◌, List, []
 use Rattle.std.specs.List.{list_any, position_or_len, before_first, join_with_byte}
 use Rattle.encoded_messages.specs.declared.field_fault.Allowed.{Allowed}
 use Rattle.encoded_messages.specs.declared.field_fault.Allowed.TheVariants as may
-use Rattle.channel_fsm.specs.declared.Sub.{Sub}
+use Rattle.timeslots.specs.declared.Sub.{Sub}
 use Rattle.encoded_messages.specs.Words.{words_of, values_of, first_unknown}
 use Rattle.encoded_messages.specs.Values.{number_to, flag_of, octets_of, traffic_channel_of}
 use Rattle.encoded_messages.specs.FieldFaults.{Unknown, Missing, Twice, Value, Read, ◌>>=◌}

@@ -1,8 +1,8 @@
 -- The channel types of traffic channels of one timeslot, five bits: bits 8 to 4 of the octet in which bits 3 to 1 are the timeslot, alike
 -- in a channel description (TS 44.018 clauses 10.5.2.5 and 10.5.2.5a) and in a channel number (TS 48.058 clause 9.3.1).
 use Rattle.std.specs.Prelude.{◌≡◌, ◌↔◌, ℕ, ◌==◌, List, [], ◌∷◌, find, Option, Some}
-use Rattle.channel_fsm.specs.declared.Sub.{Sub}
-use Rattle.channel_fsm.specs.declared.Sub.TheVariants.{Full, Half0, Half1}
+use Rattle.timeslots.specs.declared.Sub.{Sub}
+use Rattle.timeslots.specs.declared.Sub.TheVariants.{Full, Half0, Half1}
 
 -- 00001 is TCH/F with its associated channels (Bm); 0001T is TCH/H with its associated channels (Lm), T its subchannel.
 abbrev pub type_of : Sub → ℕ

@@ -2,9 +2,9 @@
 //! 10.5.2.5 and 10.5.2.5a) and in a channel number (TS 48.058 clause 9.3.1).
 ghost use Rattle.std.specs.Prelude.{◌≡◌, ◌≢◌, ◌<◌, ◌^◌, IfSome, IfNone};
 ghost use Rattle.octet_elements.specs.ChannelTypes.{type_of, sub_of};
-ghost use Rattle.channel_fsm.specs.declared.Sub.{Sub};
+ghost use Rattle.timeslots.specs.declared.Sub.{Sub};
 
-use channel_fsm::Sub;
+use timeslots::Sub;
 
 /// The channel type of a traffic channel with its associated channels, in five bits.
 #[inline]

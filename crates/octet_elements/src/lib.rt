@@ -24,13 +24,13 @@ pub mod values;
 mod write;
 
 pub use bits::{BitReader, BitWriter};
-pub use channel_fsm::Sub;
 pub use channel_types::{channel_type, sub_of_type};
 pub use element::{Leading, leading_element};
 pub use form::{ElementTable, Form, PLACES};
 pub use found::Found;
 pub use laws::{channel_types_are_unique, spelling_is_unique, split_is_unique};
 pub use octets::Octets;
+pub use timeslots::Sub;
 pub use values::ValueFault;
 pub use write::{
     append_element, append_octet, append_octets, append_optional_octet, append_presence,

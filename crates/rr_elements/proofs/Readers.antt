@@ -7,7 +7,7 @@ use Rattle.rr_elements.specs.declared.measurement.MeasHead.{MeasHead}
 use Rattle.rr_elements.specs.declared.measurement.Ncell.{Ncell}
 use Rattle.octet_elements.specs.Bits.{bits_of, cut}
 use Rattle.octet_elements.specs.ChannelTypes.{sub_of}
-use Rattle.channel_fsm.specs.declared.Sub.{Sub}
+use Rattle.timeslots.specs.declared.Sub.{Sub}
 use Rattle.rr_elements.specs.CellDescription.{Cell, cell_widths}
 use Rattle.rr_elements.specs.ChanDescription.{Chan, chan_widths}
 use Rattle.rr_elements.specs.Power.{PowerCommand, power_widths}

@@ -2,7 +2,7 @@
 use Rattle.std.specs.Prelude.{◌≡◌, ℕ, ◌/◌, ◌%◌, ◌^◌, ◌<◌, List, [], ◌∷◌, length}
 use Rattle.rr_elements.specs.Faults.{HasOtherLength}
 use Rattle.octet_elements.specs.ChannelTypes.{type_of}
-use Rattle.channel_fsm.specs.declared.Sub.{Sub}
+use Rattle.timeslots.specs.declared.Sub.{Sub}
 use Rattle.octet_elements.specs.Fields.{AreFields, AreFirstFields, field_octets}
 use Rattle.rr_elements.specs.declared.fault.ElementFault.{ElementFault}
 use Rattle.rr_elements.specs.declared.fault.ElementFault.TheVariants.{Length, BadType, Hopping, BadRange}

@@ -4,7 +4,7 @@ use borrow.Author.Tests.{eq-eqb}
 use Rattle.std.specs.List.{AllByRecursion}
 use Rattle.octet_elements.specs.Elements.{Fits, FitsAs, first_of, all_octets, nth}
 use Rattle.octet_elements.specs.ChannelTypes.{type_of, sub_of}
-use Rattle.channel_fsm.specs.declared.Sub.{Sub}
+use Rattle.timeslots.specs.declared.Sub.{Sub}
 use Rattle.octet_elements.specs.Lookup.{Lookup, values_in}
 use Rattle.octet_elements.specs.Rows.{◌>>=◌}
 use Rattle.octet_elements.specs.Rows.{Row, octet, optional_octet, u16_be, octets, any_octets, optional_octets, ◌▸◌}

@@ -1,7 +1,7 @@
 -- What the value of an element says, and how it is written (TS 48.058 clause 9.3).
 use Rattle.std.specs.Prelude.{ℕ, ◌+◌, ◌*◌, ◌/◌, ◌%◌, List, [], ◌∷◌, Option, Some, None, Result, Ok, Err}
 use Rattle.octet_elements.specs.ChannelTypes.{type_of, sub_of}
-use Rattle.channel_fsm.specs.declared.Sub.{Sub}
+use Rattle.timeslots.specs.declared.Sub.{Sub}
 use Rattle.octet_elements.specs.declared.values.ValueFault.{ValueFault}
 use Rattle.octet_elements.specs.declared.values.ValueFault.TheVariants.{Absent, Bad}
 use Rattle.rsl_messages.specs.declared.message.ChanBits.{ChanBits}

@@ -1,4 +1,6 @@
 //! Why octets are no message.
+ghost use Rattle.std.specs.Prelude.{◌≡◌, ◌↔◌, IsTrue};
+
 use octet_elements::ValueFault;
 use std::alloc::AllocError;
 use thiserror::Error;
@@ -32,8 +34,24 @@ pub enum RslFault {
     NoMemory,
 }
 
+impl RslFault {
+    /// Memory was refused: the octets may be a message.
+    pub fn is_memory(self) -> bool
+        ensures { IsTrue result ↔ (self ≡ RslFault.NoMemory) }
+    {
+        match self {
+            Self::NoMemory => true,
+            Self::NotRsl
+            | Self::UnknownType(_)
+            | Self::Missing(_)
+            | Self::BadElement(_)
+            | Self::Torn(_)
+            | Self::TooLong => false,
+        }
+    }
+}
+
 impl From<AllocError> for RslFault {
-    ghost use Rattle.std.specs.Prelude.{◌≡◌};
     ghost use Rattle.rsl_messages.specs.declared.fault.RslFault.TheVariants.{NoMemory};
 
     ghost from_gives = { λ _ e. e ≡ NoMemory };
@@ -44,7 +62,6 @@ impl From<AllocError> for RslFault {
 }
 
 impl From<ValueFault> for RslFault {
-    ghost use Rattle.std.specs.Prelude.{◌≡◌};
     ghost use Rattle.rsl_messages.specs.Values.{fault_of};
 
     ghost from_gives = { λ e f. f ≡ fault_of e };

@@ -1,5 +1,5 @@
 //! Messages on Abis.
-use super::{Fail, RefusingHeap, equals_at, holds_at, is_hex, is_printed, octets_of};
+use super::{Fail, RefusingHeap, equals, equals_at, holds_at, is_hex, is_printed, octets_of};
 use rsl_messages::{
     ChanBits, Rsl, RslFault, Sub, canonical_is_text, decode, encode, encode_into, fits,
     reading_is_unique,
@@ -11,6 +11,9 @@ use std::process::Abort;
 const TEXTS: &[(&str, u64)] = &[
     ("0301010b02000b0003060d00", 1),
     ("0302010b02000b0003062c00", 1),
+    // a mobile is sent to another controller, and comes back
+    ("0301010b02000b0009062bd5670ba36b2a05", 1),
+    ("0302010b02000b0003062800", 1),
     ("0821010b0302060400010801092a", 1),
     ("0822010b081234", 0),
     ("0823010a1a0120", 0),
@@ -72,6 +75,45 @@ fn messages_come_back(rt: HostRuntime) {
     }
     reading_is_unique::<Global>();
     canonical_is_text::<Global>();
+}
+
+/// What stands before the length of a list in one octet, and behind that list: a channel's mode, and an uplink's measurements.
+const LISTS: &[(&[u8], &[u8])] = &[
+    (&[0x08, 0x21, 0x01, 0x0B, 0x03, 0x00, 0x06], &[]),
+    (&[0x08, 0x28, 0x01, 0x0B, 0x1B, 0x00, 0x19], &[0x04, 0x00]),
+];
+
+/// A list of so many octets is read, and written as it was read.
+fn list_comes_back(
+    rt: &(impl AllocGlobal + Abort),
+    front: &[u8],
+    behind: &[u8],
+    len: u8,
+) -> Result<(), Fail> {
+    let mut octets = Vec::from_slice(rt.alloc(), front)?;
+    octets.push(len)?;
+    for _ in 0..len {
+        octets.push(0x2A)?;
+    }
+    octets.extend_from_slice(behind)?;
+    let message = decode(rt.alloc(), &octets)?;
+    assert!(rt; fits(&message));
+    equals(
+        rt,
+        encode(rt.alloc(), &message)?.as_slice(),
+        octets.as_slice(),
+    );
+    Ok(())
+}
+
+#[test]
+fn lists_of_each_length_come_back(rt: HostRuntime) -> Result<(), Fail> {
+    for (front, behind) in LISTS {
+        for len in 1..256_u16 {
+            list_comes_back(&rt, *front, *behind, len as u8)?;
+        }
+    }
+    Ok(())
 }
 
 /// Octets, why they are no message, and how many lists were kept until that was known: none, even where one is whole.

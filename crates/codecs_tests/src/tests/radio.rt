@@ -31,20 +31,34 @@ fn refusals_of(rt: &(impl AllocGlobal + Abort), message: &Rr, text: &str) -> u64
     refused
 }
 
-fn comes_back(rt: &(impl AllocGlobal + Abort), text: &str) {
+/// What a text says is written as another, or as the same.
+fn is_written(rt: &(impl AllocGlobal + Abort), text: &str, wanted: &str) {
     let message = decode(&octets_of(rt, text)).expect(rt, text);
-    let refused = refusals_of(rt, &message, text);
+    let refused = refusals_of(rt, &message, wanted);
     holds_at(rt, 0 < refused && refused < 99, (text, refused));
     let mut out = Vec::new(rt.alloc());
     holds_at(rt, encode_into(&message, &mut out).is_ok(), text);
-    is_hex(rt, &out, text);
+    is_hex(rt, &out, wanted);
 }
 
 #[test]
 fn messages_come_back(rt: HostRuntime) {
     for text in TEXTS {
-        comes_back(&rt, *text);
+        is_written(&rt, *text, *text);
     }
+}
+
+/// A report with a count of 7, which says that no neighbour follows, with the bits of one; and without.
+const SEVEN: (&str, &str) = (
+    "06151e1e01e812a000000000000000000000",
+    "06151e1e01c0000000000000000000000000",
+);
+
+#[test]
+fn a_report_without_neighbours_is_written(rt: HostRuntime) {
+    let (text, written) = SEVEN;
+    is_written(&rt, text, written);
+    is_written(&rt, written, written);
 }
 
 const HOPPING: RrFault = RrFault::Element(ElementFault::Hopping);
