@@ -8,6 +8,7 @@ mod foreign;
 mod memory;
 mod openings;
 mod owed;
+mod worked;
 
 use cell_table::Site;
 use channel_fsm::{ChanId, Rate, Sub};
@@ -63,11 +64,13 @@ const UNDO: Event = Undo(1, Asked);
 
 const RELEASED: Event = Released(TARGET);
 
-// What is asked of a book or at a desk: an event, a Take of any free channel of a cell, a Reserve of any free reference.
+// What is asked of a book or at a desk: an event, a Take of any free channel of a cell, an Open on any, a Reserve of any
+// free reference.
 #[derive(Clone, Copy, Debug)]
 enum Ask {
     Step(Event),
     TakeAny(u16, Kind, u8),
+    OpenAny(u16, u8),
     ReserveAny(u16),
 }
 
@@ -81,6 +84,7 @@ fn put_to_book<A: Allocator + Copy>(book: &mut Book<A>, ask: Ask) -> Result<Entr
             Ok(Some((event, reply)))
         }
         Ask::TakeAny(call, kind, cell) => book.take_any(call, kind, cell, Rate::Full),
+        Ask::OpenAny(call, cell) => book.open_any(call, cell, Rate::Full),
         Ask::ReserveAny(call) => {
             let chosen = book.reserve_any(call)?;
             Ok(Some(chosen))

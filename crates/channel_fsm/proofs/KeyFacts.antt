@@ -9,12 +9,13 @@ use Rattle.std.specs.Cmp.{IsTotalOrder, nat_cmp_total, unsigned_Decides}
 use Rattle.std.specs.FinMap.{IsAntisymmetric}
 use Rattle.std.proofs.lemmas.Cmp.{on_total, then_total}
 use Rattle.std.proofs.lemmas.Map.Lookups.{exact_pairs, exact_unsigned}
-use Rattle.channel_fsm.specs.declared.Sub.{Sub}
-use Rattle.channel_fsm.specs.declared.Sub.TheVariants.{Full, Half0, Half1}
+use Rattle.timeslots.specs.declared.Sub.{Sub}
+use Rattle.timeslots.specs.declared.Sub.TheVariants.{Full, Half0, Half1}
 use Rattle.channel_fsm.specs.declared.ChanId.{ChanId}
-use Rattle.channel_fsm.specs.contracts.Sub.{the_type as sub_type}
+use Rattle.timeslots.specs.contracts.Sub.{the_type as sub_type}
 use Rattle.channel_fsm.specs.contracts.ChanIdPartialEq.TheImpl.{eq-value as chan_eq}
-use Rattle.channel_fsm.specs.Keys.{sub_number, chan_cmp, same_chan}
+use Rattle.channel_fsm.specs.Keys.{chan_cmp, same_chan}
+use Rattle.timeslots.specs.Parts.{sub_number}
 
 -- the part of a timeslot that has a number
 abbrev numbered : ℕ → Sub

@@ -2,14 +2,15 @@
 use Rattle.std.proofs.Common.{◌≡◌, ◌≢◌, ◌&&◌, ◌⊎◌, ℕ, Bool, true, false, cond, Option, Some, None, refl, sym, ap, ◌∙◌, subst, inl, inr, arith}
 use Rattle.std.proofs.lemmas.Bool.{and_parts, and_right, false≢true, cases_Bool}
 use Rattle.std.proofs.lemmas.Option.{same_Some, none-some}
-use Rattle.channel_fsm.specs.declared.Sub.{Sub}
-use Rattle.channel_fsm.specs.declared.Sub.TheVariants.{Full, Half0, Half1}
+use Rattle.timeslots.specs.declared.Sub.{Sub}
+use Rattle.timeslots.specs.declared.Sub.TheVariants.{Full, Half0, Half1}
 use Rattle.channel_fsm.specs.declared.ChanId.{ChanId}
 use Rattle.channel_fsm.specs.declared.ChanState.{ChanState}
 use Rattle.channel_fsm.specs.declared.ChanState.TheVariants.{Free, Held, Pending, On, Off}
-use Rattle.channel_fsm.specs.Keys.{sub_number, same_chan}
+use Rattle.channel_fsm.specs.Keys.{same_chan}
+use Rattle.timeslots.specs.Parts.{sub_number, needs}
 use Rattle.channel_fsm.proofs.KeyFacts.{same_chan_itself, one_chan}
-use Rattle.channel_fsm.specs.Slots.{Conflicts, needs, is_used, first_in_way, NoneInWay, InWayConflicts}
+use Rattle.channel_fsm.specs.Slots.{Conflicts, is_used, first_in_way, NoneInWay, InWayConflicts}
 
 -- the first of three that passes
 pub none_of_three : {X : Type 0} (a b c : Bool) (x y z : X) → cond a (Some x) (cond b (Some y) (cond c (Some z) None)) ≡ None → (a ≡ false) × ((b ≡ false) × (c ≡ false))

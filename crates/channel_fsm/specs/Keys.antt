@@ -5,16 +5,9 @@ use Rattle.std.specs.Ordering.{nat_cmp, ordering_then}
 use Rattle.std.specs.Cmp.{IsTotalOrder}
 use Rattle.std.specs.Coded.{Coded}
 use Rattle.std.specs.FinMap.{IsAntisymmetric}
-use Rattle.channel_fsm.specs.declared.Sub.{Sub}
-use Rattle.channel_fsm.specs.declared.Sub.TheVariants.{Full, Half0, Half1}
+use Rattle.timeslots.specs.Parts.{sub_number}
 use Rattle.channel_fsm.specs.declared.ChanId.{ChanId}
 use Rattle.channel_fsm.specs.contracts.ChanId.{the_row as chan_row}
-
--- the parts of a timeslot in their order
-abbrev pub sub_number : Sub → ℕ
-sub_number Full = 0
-sub_number Half0 = 1
-sub_number Half1 = 2
 
 -- the channels are one
 abbrev pub same_chan : ChanId → ChanId → Bool

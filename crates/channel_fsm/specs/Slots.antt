@@ -6,21 +6,12 @@
 --     +---------+---------+
 --     |  Half0  |  Half1  |
 --     +---------+---------+
-use Rattle.std.specs.Prelude.{◌≡◌, ◌≢◌, ◌==◌, ◌&&◌, ◌||◌, ◌⊎◌, ◌↔◌, Bool, true, false, List, [], ◌∷◌, map, find, Option, Some, None}
-use Rattle.channel_fsm.specs.declared.Rate.{Rate}
-use Rattle.channel_fsm.specs.declared.Rate.TheVariants as rate
-use Rattle.channel_fsm.specs.declared.Sub.{Sub}
-use Rattle.channel_fsm.specs.declared.Sub.TheVariants.{Full, Half0, Half1}
+use Rattle.std.specs.Prelude.{◌≡◌, ◌≢◌, ◌==◌, ◌&&◌, ◌⊎◌, ◌↔◌, Bool, true, false, List, [], ◌∷◌, map, find, Option, Some, None}
+use Rattle.timeslots.specs.declared.Sub.TheVariants.{Full, Half0, Half1}
 use Rattle.channel_fsm.specs.declared.ChanId.{ChanId}
 use Rattle.channel_fsm.specs.declared.ChanState.{ChanState}
 use Rattle.channel_fsm.specs.declared.ChanState.TheVariants.{Free, Held, Pending, On, Off}
-use Rattle.channel_fsm.specs.Keys.{sub_number}
-
--- the rate of a channel that has this part of a timeslot (TS 45.002 clause 3.2)
-abbrev pub rate_of : Sub → Rate
-rate_of Full = rate.Full
-rate_of Half0 = rate.Half
-rate_of Half1 = rate.Half
+use Rattle.timeslots.specs.Parts.{overlap, needs}
 
 -- two channels can't be used at once: they are different ones of one timeslot, and one of them is the whole timeslot
 pub record Conflicts (a b : ChanId) : Type 0 where
@@ -30,18 +21,7 @@ pub record Conflicts (a b : ChanId) : Type 0 where
   pub differ : a ≢ b
   pub whole : (a.sub ≡ Full) ⊎ (b.sub ≡ Full)
 
--- the same as a test: by the picture, different parts of a timeslot that have something of it in common
-abbrev pub overlap : Sub → Sub → Bool
-overlap Full Full = false
-overlap Full Half0 = true
-overlap Full Half1 = true
-overlap Half0 Full = true
-overlap Half0 Half0 = false
-overlap Half0 Half1 = false
-overlap Half1 Full = true
-overlap Half1 Half0 = false
-overlap Half1 Half1 = false
-
+-- the same as a test
 abbrev pub conflict : ChanId → ChanId → Bool
 conflict a b = (a.cell == b.cell) && ((a.trx == b.trx) && ((a.tn == b.tn) && overlap a.sub b.sub))
 
@@ -50,10 +30,6 @@ conflict a b = (a.cell == b.cell) && ((a.trx == b.trx) && ((a.tn == b.tn) && ove
 -- the channels of a timeslot: the whole of it, then its lower and its upper half
 abbrev pub timeslot_of : ChanId → List ChanId
 timeslot_of x = map (λ s. record x { sub = s }) (Full ∷ Half0 ∷ Half1 ∷ [])
-
--- who uses the first part of a timeslot needs the second: it is that part, or they have something in common
-abbrev pub needs : Sub → Sub → Bool
-needs s t = (sub_number s == sub_number t) || overlap s t
 
 abbrev pub is_used : ChanState → Bool
 is_used Free = false

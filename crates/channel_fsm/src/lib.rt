@@ -3,7 +3,7 @@
 #![tactic(auto)]
 
 ghost use Rattle.std.specs.Prelude.{◌≡◌, ◌≤◌, ◌↔◌, IsTrue};
-ghost use Rattle.channel_fsm.specs.Slots.{overlap, conflict, Conflicts};
+ghost use Rattle.channel_fsm.specs.Slots.{conflict, Conflicts};
 ghost use Rattle.channel_fsm.specs.Table.{next_state};
 
 use ChanEvent::{Begin, Confirm, Drop, Refuse, Released, Send, SwitchOff, Take};
@@ -16,73 +16,7 @@ mod mask;
 mod tests;
 
 pub use mask::FreeMask;
-
-/// At what rate a traffic channel carries speech (TS 45.002 clause 3.2).
-#[derive(Clone, Copy, Debug, PartialEq, Eq)]
-pub enum Rate {
-    /// Full rate, TCH/F.
-    Full,
-    /// Half rate, TCH/H.
-    Half,
-}
-
-/// What a channel has of its timeslot: all of it, or one of its two subchannels (TS 45.002 clause 6.4.1).
-///
-/// ```text
-/// +-------------------+
-/// |       Full        |
-/// +---------+---------+
-/// |  Half0  |  Half1  |
-/// +---------+---------+
-/// ```
-#[derive(Clone, Copy, Debug, PartialEq, Eq, PartialOrd, Ord, Hash)]
-pub enum Sub {
-    /// The whole timeslot, a full-rate channel.
-    Full,
-    /// Subchannel 0, a half-rate channel.
-    Half0,
-    /// Subchannel 1, a half-rate channel.
-    Half1,
-}
-
-impl Sub {
-    ghost use Rattle.channel_fsm.specs.Keys.{sub_number};
-    ghost use Rattle.channel_fsm.specs.Slots.{rate_of, needs};
-
-    /// The rate of such a channel.
-    pub fn rate(self) -> Rate
-        ensures rate { result ≡ rate_of self }
-    {
-        match self {
-            Sub::Full => Rate::Full,
-            Sub::Half0 | Sub::Half1 => Rate::Half,
-        }
-    }
-
-    /// Its place among the parts of a timeslot: 0 is the whole of it, 1 and 2 are its halves.
-    pub fn number(self) -> u8
-        ensures value { result ≡ sub_number self }
-        ensures most { result ≤ 2 }
-    {
-        match self {
-            Sub::Full => 0,
-            Sub::Half0 => 1,
-            Sub::Half1 => 2,
-        }
-    }
-
-    /// Whether a channel with this part of a timeslot can be used only where the other part isn't: where it is that part, or
-    /// they have something in common.
-    pub fn needs(self, other: Sub) -> bool
-        ensures value { result ≡ needs self other }
-    {
-        match (self, other) {
-            (Sub::Full, _) | (_, Sub::Full) => true,
-            (Sub::Half0, Sub::Half0) | (Sub::Half1, Sub::Half1) => true,
-            (Sub::Half0, Sub::Half1) | (Sub::Half1, Sub::Half0) => false,
-        }
-    }
-}
+pub use timeslots::{Rate, Sub};
 
 /// A channel: one timeslot of one TRX of one cell, or a half of it (TS 45.002 clauses 5 and 6.4.1).
 #[derive(Clone, Copy, Debug, PartialEq, Eq, PartialOrd, Ord, Hash)]
@@ -128,19 +62,7 @@ pub fn conflicts(a: ChanId, b: ChanId) -> bool
     ensures value { result ≡ conflict a b }
     ensures shared { IsTrue result ↔ Conflicts a b }
 {
-    a.cell == b.cell && a.trx == b.trx && a.tn == b.tn && overlap(a.sub, b.sub)
-}
-
-/// Whether different parts of a timeslot have something of it in common.
-fn overlap(a: Sub, b: Sub) -> bool
-    ensures { result ≡ overlap a b }
-{
-    match (a, b) {
-        (Sub::Full, Sub::Half0 | Sub::Half1) => true,
-        (Sub::Half0 | Sub::Half1, Sub::Full) => true,
-        (Sub::Full, Sub::Full) => false,
-        (Sub::Half0 | Sub::Half1, Sub::Half0 | Sub::Half1) => false,
-    }
+    a.cell == b.cell && a.trx == b.trx && a.tn == b.tn && a.sub.overlaps(b.sub)
 }
 
 /// What a channel is used for at present.

@@ -5,14 +5,14 @@ use Rattle.std.proofs.lemmas.Bool.{and_parts, and_from, and_left, false≢true, 
 use Rattle.std.proofs.lemmas.Bool.Decides.{nat_tests}
 use Rattle.std.proofs.lemmas.List.Concat.{flat_map-cons}
 use Rattle.std.proofs.lemmas.List.Sums.{sum_by-cons, sum_by-append}
-use Rattle.channel_fsm.specs.declared.Rate.{Rate}
-use Rattle.channel_fsm.specs.declared.Rate.TheVariants as rate
-use Rattle.channel_fsm.specs.declared.Sub.{Sub}
-use Rattle.channel_fsm.specs.declared.Sub.TheVariants.{Full, Half0, Half1}
+use Rattle.timeslots.specs.declared.Rate.{Rate}
+use Rattle.timeslots.specs.declared.Rate.TheVariants as rate
+use Rattle.timeslots.specs.declared.Sub.{Sub}
+use Rattle.timeslots.specs.declared.Sub.TheVariants.{Full, Half0, Half1}
 use Rattle.channel_fsm.specs.declared.ChanId.{ChanId}
 use Rattle.channel_fsm.specs.declared.ChanState.{ChanState}
-use Rattle.channel_fsm.specs.Keys.{sub_number}
-use Rattle.channel_fsm.specs.Slots.{rate_of, is_used, first_in_way}
+use Rattle.timeslots.specs.Parts.{sub_number, rate_of}
+use Rattle.channel_fsm.specs.Slots.{is_used, first_in_way}
 use Rattle.channel_fsm.specs.Masks.{has, timeslots}
 use Rattle.cell_table.specs.Site.{SiteView, TrafficLiesWithin, is_traffic, parts_of, trx_channels}
 use Rattle.dense_tables.specs.Channels.{Channels, or_free, state_of, IsFreeIn, IsFreeAt, NoneFreeAt, is_free_traffic, channels_of, free_in, state_at, states_of, place_at, state_by, is_free_by, is_part_free, mask_at, AreMasks, IsMasked, IsMaskedAt, IsMaskedWith, IsFirstWith, IsFirstAt, lower_of, IsNoLater}

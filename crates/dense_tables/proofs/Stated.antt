@@ -10,9 +10,10 @@ use Rattle.std.proofs.lemmas.List.Quantifiers.{position-Some}
 use Rattle.channel_fsm.specs.declared.ChanId.{ChanId}
 use Rattle.channel_fsm.specs.declared.ChanState.{ChanState}
 use Rattle.channel_fsm.specs.declared.ChanState.TheVariants.{Free, Held, Pending, On, Off}
-use Rattle.channel_fsm.specs.declared.Sub.{Sub}
-use Rattle.channel_fsm.specs.declared.Sub.TheVariants.{Full, Half0, Half1}
-use Rattle.channel_fsm.specs.Keys.{sub_number, same_chan}
+use Rattle.timeslots.specs.declared.Sub.{Sub}
+use Rattle.timeslots.specs.declared.Sub.TheVariants.{Full, Half0, Half1}
+use Rattle.channel_fsm.specs.Keys.{same_chan}
+use Rattle.timeslots.specs.Parts.{sub_number}
 use Rattle.channel_fsm.specs.Slots.{is_used, first_in_way}
 use Rattle.channel_fsm.proofs.WayFacts.{way_same, way_used, none_used_in_way}
 use Rattle.cell_table.specs.Site.{SiteView, IsSite, IsWithinLimits, TrafficLiesWithin, is_traffic, channels, index_of}

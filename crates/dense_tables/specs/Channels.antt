@@ -3,15 +3,15 @@ use Rattle.std.specs.Prelude.{◌≡◌, ◌==◌, ◌<◌, ◌≤◌, ◌+◌, 
 use Rattle.std.specs.List.{range_with_len}
 use Rattle.std.specs.Coded.{Coded, code_by, coded×}
 use Rattle.std.specs.FinMap as map
-use Rattle.channel_fsm.specs.declared.Rate.{Rate}
-use Rattle.channel_fsm.specs.declared.Sub.{Sub}
-use Rattle.channel_fsm.specs.declared.Sub.TheVariants.{Full, Half0, Half1}
+use Rattle.timeslots.specs.declared.Rate.{Rate}
+use Rattle.timeslots.specs.declared.Sub.{Sub}
+use Rattle.timeslots.specs.declared.Sub.TheVariants.{Full, Half0, Half1}
 use Rattle.channel_fsm.specs.declared.ChanId.{ChanId}
 use Rattle.channel_fsm.specs.declared.ChanState.{ChanState}
 use Rattle.channel_fsm.specs.declared.ChanState.TheVariants.{Free, Held, Pending, On, Off}
 use Rattle.channel_fsm.specs.contracts.ChanState.{the_row as state_row}
-use Rattle.channel_fsm.specs.Keys.{sub_number}
-use Rattle.channel_fsm.specs.Slots.{rate_of, first_in_way}
+use Rattle.timeslots.specs.Parts.{sub_number, rate_of}
+use Rattle.channel_fsm.specs.Slots.{first_in_way}
 use Rattle.channel_fsm.specs.Masks.{has}
 use Rattle.cell_table.specs.Limits.{most_cells, most_trx, timeslots_of_trx}
 use Rattle.cell_table.specs.Site.{SiteView, site_code, IsSite, IsWithinLimits, TrafficLiesWithin, is_traffic, trx_channels, channels, index_of}

@@ -4,6 +4,7 @@ ghost use Rattle.std.specs.FinMap as map;
 ghost use Rattle.dense_tables.specs.Calls.{kept_in, entry_at, AgreesAt};
 ghost use Rattle.slab.specs.Slab.{get as slot_at, ContainsKey, Updates};
 
+use crate::blocks::copy_of;
 use slab::Slab;
 use std::alloc::{AllocError, Allocator, Global};
 use std::marker::Model;
@@ -30,6 +31,8 @@ struct Slot<E> {
 
 impl<E: Entry> Clone for Slot<E> {
     ghost is_clone = { λ slot copy. copy ≡ slot };
+
+    ghost is_infallible = { λ slot. E.is_infallible slot.entry };
 
     fn clone(&self) -> Result<Slot<E>, AllocError> {
         Ok(Slot {
@@ -81,7 +84,7 @@ impl<E: Entry, A: Allocator + Copy> CallSlots<E, A> {
     pub fn copy(&self) -> Result<CallSlots<E, A>, AllocError>
         ensures copy { IfOk result (λ copy. copy ≡ self.now) }
     {
-        let keys = self.keys.clone()?;
+        let keys = copy_of(&self.keys)?;
         let slots = self.slots.clone()?;
         Ok(CallSlots {
             keys,

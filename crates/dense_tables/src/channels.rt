@@ -9,6 +9,7 @@ ghost use Rattle.dense_tables.specs.Channels.{all_free, with_state, busy, channe
 mod masks;
 mod places;
 
+use crate::blocks::copy_of;
 use cell_table::Site;
 use cell_table::limits::MOST_CELLS;
 use channel_fsm::{ChanId, ChanState, FreeMask, Rate};
@@ -71,9 +72,9 @@ impl<A: Allocator + Copy> ChannelStates<A> {
         ensures copy { IfOk result (λ copy. copy ≡ self.now) }
     {
         let site = self.site.clone()?;
-        let states = self.states.clone()?;
-        let places = self.places.clone()?;
-        let masks = self.masks.clone()?;
+        let states = copy_of(&self.states)?;
+        let places = copy_of(&self.places)?;
+        let masks = copy_of(&self.masks)?;
         Ok(ChannelStates {
             site,
             states,

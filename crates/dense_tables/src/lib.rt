@@ -3,6 +3,7 @@
 //! where a call is added, and nowhere else.
 #![tactic(auto)]
 
+mod blocks;
 pub mod calls;
 pub mod channels;
 mod references;

@@ -3,6 +3,7 @@ ghost use Rattle.std.specs.Prelude.{◌≡◌, ◌≢◌, ◌↔◌, ◌<◌, �
 ghost use Rattle.std.specs.FinMap as map;
 ghost use Rattle.dense_tables.specs.References.{all_unused, with_user, place_of, user_at};
 
+use crate::blocks::copy_of;
 use std::alloc::{AllocError, Allocator, Global};
 use std::marker::Model;
 
@@ -57,7 +58,7 @@ impl<A: Allocator + Copy> ReferenceRows<A> {
     pub fn copy(&self) -> Result<ReferenceRows<A>, AllocError>
         ensures copy { IfOk result (λ copy. copy ≡ self.now) }
     {
-        let users = self.users.clone()?;
+        let users = copy_of(&self.users)?;
         Ok(ReferenceRows {
             cells: self.cells,
             users,

@@ -6,7 +6,7 @@ use Rattle.std.specs.FinMap as map
 use Rattle.std.specs.FinMap.{FinMap, IsAntisymmetric, nat_cmp-IsAntisymmetric}
 use Rattle.channel_fsm.specs.declared.ChanId.{ChanId}
 use Rattle.channel_fsm.specs.declared.ChanState.{ChanState}
-use Rattle.channel_fsm.specs.declared.Sub.TheVariants.{Full}
+use Rattle.timeslots.specs.declared.Sub.TheVariants.{Full}
 use Rattle.channel_fsm.specs.Slots.{Conflicts}
 use Rattle.channel_fsm.proofs.WayFacts.{all_free}
 use Rattle.channel_fsm.specs.declared.ChanState.TheVariants.{Free, On}

@@ -8,7 +8,7 @@ use Rattle.std.proofs.lemmas.Map.Steps.{length-le_from_distinct_below}
 use Rattle.std.proofs.lemmas.Map.Views.{Contains-from_any}
 use Rattle.std.specs.FinMap as map
 use Rattle.channel_fsm.specs.declared.ChanId.{ChanId}
-use Rattle.channel_fsm.specs.Keys.{sub_number}
+use Rattle.timeslots.specs.Parts.{sub_number}
 use Rattle.channel_fsm.proofs.KeyFacts.{one_sub}
 use Rattle.cell_table.proofs.PartFacts.{number_small}
 use Rattle.radio_tables.specs.declared.kinds.CallRecord.{CallRecord}

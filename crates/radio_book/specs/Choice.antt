@@ -1,7 +1,7 @@
 -- What a choice of a channel (TS 48.058 clause 4) or of a Handover Reference (TS 44.018 clause 10.5.2.15) allows.
 use Rattle.std.specs.Prelude.{◌≡◌, ℕ, ◌<◌, if◌then◌else◌, Option, Some, None}
 use Rattle.std.specs.FinMap as map
-use Rattle.channel_fsm.specs.declared.Rate.{Rate}
+use Rattle.timeslots.specs.declared.Rate.{Rate}
 use Rattle.channel_fsm.specs.declared.ChanId.{ChanId}
 use Rattle.radio_book.specs.declared.event.Kind.{Kind}
 use Rattle.radio_tables.specs.declared.kinds.Attempt.{Attempt}
@@ -19,6 +19,10 @@ reference_numbers = 256
 -- the event is the call's Take of such a channel at a rate
 abbrev pub TakesFree : State → ℕ → Kind → ℕ → Rate → Event → Type 0
 TakesFree b c kind cell rate e = (x : ChanId) × IsFreeAt b cell rate x × (e ≡ event.Take c kind x)
+
+-- the event is the call's Open on such a channel at a rate
+abbrev pub OpensFree : State → ℕ → ℕ → Rate → Event → Type 0
+OpensFree b c cell rate e = (x : ChanId) × IsFreeAt b cell rate x × (e ≡ event.Open c x)
 
 -- a number that, with the cell, is the reference of no call
 pub record IsNumberFree (b : State) (cell number : ℕ) : Type 0 where

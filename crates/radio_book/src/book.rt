@@ -12,7 +12,7 @@ ghost use Rattle.radio_book.specs.declared.event.Kind.{Kind};
 ghost use Rattle.radio_book.specs.declared.event.Why.{Why};
 ghost use Rattle.radio_book.specs.Journal.{journal_of, run_back};
 ghost use Rattle.radio_book.specs.Table.{step, reply_to, row, NeedsRoom, MayNeedRoom, MayBeRefused};
-ghost use Rattle.radio_book.specs.Choice.{IsFreeAt, NoneFree, NoneFreeAt, TakesFree, ReservesFree, IsFreeCount};
+ghost use Rattle.radio_book.specs.Choice.{IsFreeAt, NoneFree, NoneFreeAt, TakesFree, OpensFree, ReservesFree, IsFreeCount};
 
 use crate::event::{Event, Kind, Reply};
 use crate::records::Records;
@@ -38,9 +38,15 @@ pub struct Usage {
 
 /// The book of a site: the state of each channel in use, the record of each call, and the handover
 /// references and timers that attempts hold. It is sound at all times.
-#[derive(Drop)]
 pub struct Book<A: Allocator = Global> {
     records: Records<DenseTables<A>>,
+}
+
+/// Written by hand, so that it is proved here alone: crates above would prove the drops of all parts anew for a derived one.
+impl<A: Allocator> Drop for Book<A> {
+    fn drop(self) {
+        let Book { records: _ } = self;
+    }
 }
 
 impl<A: Allocator> Model for Book<A> {
@@ -197,6 +203,35 @@ impl<A: Allocator + Copy> Book<A> {
             return Ok(None);
         };
         let event = Event::Take(call, kind, x);
+        let reply = self.step(event)?;
+        Ok(Some((event, reply)))
+    }
+
+    /// An `Open` on some free channel of the cell at a rate, judged as by [`Book::step`], with its answer. `None` says that
+    /// there is none, as in a cell that the site lacks. Memory is asked for only where the `Open` is accepted. Any free
+    /// channel meets the contract; this body takes that of the lowest TRX, then timeslot, then half.
+    pub fn open_any(
+        &mut self,
+        call: u16,
+        cell: u8,
+        rate: Rate,
+    ) -> Result<Option<(Event, Reply)>, AllocError>
+        ensures none { (result ≡ Ok None) ↔ NoneFreeAt self.old cell rate }
+        ensures kept { result ≡ Ok None → self.new ≡ self.old }
+        ensures event { IfOk result (λ chosen. IfSome chosen
+            (λ opened. OpensFree self.old call cell rate opened.0)) }
+        ensures reply { IfOk result (λ chosen. IfSome chosen
+            (λ opened. opened.1 ≡ reply_to self.old opened.0)) }
+        ensures book { IfOk result (λ chosen. IfSome chosen
+            (λ opened. self.new ≡ step self.old opened.0)) }
+        ensures unchanged { OnErr result (self.new ≡ self.old) }
+        ensures memory { OnErr result ((e : Event) × OpensFree self.old call cell rate e ×
+            NeedsRoom self.old (row self.old e)) }
+    {
+        let Some(chan) = self.records.choose_channel(cell, rate) else {
+            return Ok(None);
+        };
+        let event = Event::Open(call, chan);
         let reply = self.step(event)?;
         Ok(Some((event, reply)))
     }

@@ -39,6 +39,10 @@ pub record IsInOrder (d : DeskState) : Type 0 where
 abbrev pub LacksRoom : DeskState → Type 0
 LacksRoom d = d.room < calls_and_channels d.book + 3
 
+-- the same of a history that can hold so many entries, and has so many
+abbrev pub LacksCapacity : ℕ → ℕ → State → Type 0
+LacksCapacity capacity entries b = capacity < entries + (calls_and_channels b + 3)
+
 -- at the receipt's place stands its event with its reply
 abbrev pub IsEntryOf : List (Event × Reply) → Receipt → Type 0
 IsEntryOf history r = slice_get history r.place ≡ Some (r.event, r.reply)

@@ -4,7 +4,7 @@ ghost use Rattle.radio_book.specs.declared.event.Event.{Event};
 ghost use Rattle.radio_book.specs.declared.event.Kind.{Kind};
 ghost use Rattle.radio_book.specs.Run.{Leads};
 ghost use Rattle.radio_book.specs.Table.{row, reply_to, NeedsRoom, MayBeRefused};
-ghost use Rattle.radio_book.specs.Choice.{NoneFreeAt, TakesFree, ReservesFree};
+ghost use Rattle.radio_book.specs.Choice.{NoneFreeAt, TakesFree, OpensFree, ReservesFree};
 ghost use Rattle.radio_book.specs.Kinds.{is_accepted};
 ghost use Rattle.radio_book.specs.Owed.{owed, is_owed};
 ghost use Rattle.radio_desk.specs.Desk.{IsEntryOf, HoldsLast, IsForeign, IsJudged, IsSameDesk, LacksRoom};
@@ -48,11 +48,21 @@ impl From<AllocError> for DeskFault {
 /// A book with its history: the book that it opened with, every event that was judged since with its reply, and the book
 /// that they lead to. Contracts see these three, and how many more entries the history takes without memory: at any time
 /// one for each open attempt and each channel in use, which are owed an `Undo` and a `Released`.
-#[derive(Drop)]
 pub struct Desk<A: Allocator = Global> {
     opening: Book<A>,
     history: Vec<(Event, Reply), A>,
     book: Book<A>,
+}
+
+/// Written by hand, so that it is proved here alone: crates above would prove a derived one anew.
+impl<A: Allocator> Drop for Desk<A> {
+    fn drop(self) {
+        let Desk {
+            opening: _,
+            history: _,
+            book: _,
+        } = self;
+    }
 }
 
 impl<A: Allocator> Model for Desk<A> {
@@ -241,6 +251,46 @@ impl<A: Allocator + Copy> Desk<A> {
         };
         let receipt = self.judge(seat, Event::Take(call, kind, chan))?;
         Ok(Some(receipt))
+    }
+
+    /// Judges an `Open` on some channel of a cell that is free at a rate, as [`Book::open_any`] chooses it. `None`, just where
+    /// the cell has none, is no entry, changes nothing and takes no memory. Else as [`Desk::judge`].
+    #[tactic(auto, using(crate::proofs::Taking::not_foreign, crate::proofs::Taking::open_memory))]
+    pub fn judge_open(
+        &mut self,
+        seat: &mut Seat,
+        call: u16,
+        cell: u8,
+        rate: Rate,
+    ) -> Result<Option<Receipt>, DeskFault>
+        ensures foreign { (place : ℕ) → (result ≡ Err (DeskFault.Foreign place)) ↔
+            IsForeign self.old.history seat.old place }
+        ensures held { OnOk result (HoldsLast self.old.history seat.old) }
+        ensures none { result ≡ Ok None → NoneFreeAt self.old.book cell rate }
+        ensures looked { HoldsLast self.old.history seat.old → NoneFreeAt self.old.book cell rate →
+            result ≡ Ok None }
+        ensures kept { result ≡ Ok None → IsSameDesk self.old self.new × (seat.new ≡ seat.old) }
+        ensures takes_none { result ≡ Ok None → self.new.room ≡ self.old.room }
+        ensures event { IfOk result (λ answer. IfSome answer
+            (λ receipt. OpensFree self.old.book call cell rate receipt.event)) }
+        ensures judged { IfOk result (λ answer. IfSome answer
+            (λ receipt. IsJudged self.old receipt self.new)) }
+        ensures seat { IfOk result (λ answer. IfSome answer
+            (λ receipt. seat.new ≡ Some receipt)) }
+        ensures unchanged { OnErr result (IsSameDesk self.old self.new × (seat.new ≡ seat.old)) }
+        ensures foreign_takes_none { (place : ℕ) → result ≡ Err (DeskFault.Foreign place) →
+            self.new.room ≡ self.old.room }
+        ensures memory { result ≡ Err DeskFault.NoMemory → LacksRoom self.old ⊎
+            ((e : Event) × OpensFree self.old.book call cell rate e ×
+            NeedsRoom self.old.book (row self.old.book e)) }
+    {
+        if let Some(place) = foreign_place(self.history.as_slice(), seat) {
+            return Err(DeskFault::Foreign(place));
+        }
+        match self.book.free_channel(cell, rate) {
+            Some(chan) => Ok(Some(self.judge(seat, Event::Open(call, chan))?)),
+            None => Ok(None),
+        }
     }
 
     /// Judges a `Reserve` of some free reference, as [`Book::reserve_any`] chooses it. Memory is asked for the history alone.

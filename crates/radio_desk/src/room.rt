@@ -5,13 +5,14 @@
 //! that was kept for it. Every other event makes room before the book is asked, for its own entry and for those that are
 //! owed from then on, and one of these kinds that is refused makes it once the book has answered. So neither uses the room
 //! that is kept.
-ghost use Rattle.std.specs.Prelude.{◌≡◌, ◌⊎◌, ◌+◌, ◌-◌, ◌^◌, ◌<◌, ◌≤◌, IsTrue, false, IfOk, OnOk, OnErr, IsOk, MatchOption, vec_len, vec_capacity};
+ghost use Rattle.std.specs.Prelude.{◌≡◌, ◌⊎◌, ◌+◌, ◌-◌, ◌^◌, ◌≤◌, IsTrue, false, IfOk, OnOk, OnErr, IsOk, MatchOption, vec_len, vec_capacity};
 ghost use Rattle.radio_book.specs.declared.event.Event.{Event};
 ghost use Rattle.radio_book.specs.Choice.{ReservesFree};
 ghost use Rattle.radio_book.specs.Kinds.{is_accepted};
-ghost use Rattle.radio_book.specs.Owed.{owed, calls_and_channels, is_owed};
+ghost use Rattle.radio_book.specs.Owed.{owed, is_owed};
 ghost use Rattle.radio_book.specs.Sound.{IsSound};
 ghost use Rattle.radio_book.specs.Table.{step, reply_to, row, NeedsRoom, MayBeRefused};
+ghost use Rattle.radio_desk.specs.Desk.{LacksCapacity};
 
 use radio_book::book::Book;
 use radio_book::event::{Event, Reply};
@@ -39,8 +40,8 @@ pub(crate) fn make_room<A: Allocator + Copy>(
 ) -> Result<(), AllocError>
     ensures room { OnOk result (vec_len history.new + (owed book.now + 3)
         ≤ vec_capacity history.new) }
-    ensures full { OnErr result (vec_capacity history.old
-        < vec_len history.old + (calls_and_channels book.now + 3)) }
+    ensures full { OnErr result
+        (LacksCapacity (vec_capacity history.old) (vec_len history.old) book.now) }
     ensures items { history.new.items ≡ history.old.items }
     ensures len { vec_len history.new ≡ vec_len history.old }
     ensures capacity { vec_capacity history.old ≤ vec_capacity history.new }
@@ -64,11 +65,11 @@ fn answer_any<A: Allocator + Copy>(
     ensures room { OnOk result (vec_len history.new + (owed book.new + 1)
         ≤ vec_capacity history.new) }
     ensures unchanged { OnErr result (book.new ≡ book.old) }
-    ensures memory { OnErr result ((vec_capacity history.old
-        < vec_len history.old + (calls_and_channels book.old + 3))
+    ensures memory { OnErr result
+        (LacksCapacity (vec_capacity history.old) (vec_len history.old) book.old
         ⊎ NeedsRoom book.old (row book.old event)) }
-    ensures begins { OnErr result ((vec_capacity history.old
-        < vec_len history.old + (calls_and_channels book.old + 3))
+    ensures begins { OnErr result
+        (LacksCapacity (vec_capacity history.old) (vec_len history.old) book.old
         ⊎ MayBeRefused false event) }
     ensures items { history.new.items ≡ history.old.items }
     ensures len { vec_len history.new ≡ vec_len history.old }
@@ -96,8 +97,8 @@ fn answer_owed<A: Allocator + Copy>(
     ensures takes_none { IsTrue (is_accepted (reply_to book.old event)) →
         vec_capacity history.new ≡ vec_capacity history.old }
     ensures unchanged { OnErr result (book.new ≡ book.old) }
-    ensures memory { OnErr result (vec_capacity history.old
-        < vec_len history.old + (calls_and_channels book.old + 3)) }
+    ensures memory { OnErr result
+        (LacksCapacity (vec_capacity history.old) (vec_len history.old) book.old) }
     ensures items { history.new.items ≡ history.old.items }
     ensures len { vec_len history.new ≡ vec_len history.old }
     ensures capacity { vec_capacity history.old ≤ vec_capacity history.new }
@@ -130,11 +131,11 @@ pub(crate) fn answer<A: Allocator + Copy>(
         IsTrue (is_accepted (reply_to book.old event)) →
         vec_capacity history.new ≡ vec_capacity history.old }
     ensures unchanged { OnErr result (book.new ≡ book.old) }
-    ensures memory { OnErr result ((vec_capacity history.old
-        < vec_len history.old + (calls_and_channels book.old + 3))
+    ensures memory { OnErr result
+        (LacksCapacity (vec_capacity history.old) (vec_len history.old) book.old
         ⊎ NeedsRoom book.old (row book.old event)) }
-    ensures begins { OnErr result ((vec_capacity history.old
-        < vec_len history.old + (calls_and_channels book.old + 3))
+    ensures begins { OnErr result
+        (LacksCapacity (vec_capacity history.old) (vec_len history.old) book.old
         ⊎ MayBeRefused false event) }
     ensures items { history.new.items ≡ history.old.items }
     ensures len { vec_len history.new ≡ vec_len history.old }
@@ -160,8 +161,8 @@ pub(crate) fn answer_reserve<A: Allocator + Copy>(
     ensures room { OnOk result (vec_len history.new + (owed book.new + 1)
         ≤ vec_capacity history.new) }
     ensures unchanged { OnErr result (book.new ≡ book.old) }
-    ensures memory { OnErr result (vec_capacity history.old
-        < vec_len history.old + (calls_and_channels book.old + 3)) }
+    ensures memory { OnErr result
+        (LacksCapacity (vec_capacity history.old) (vec_len history.old) book.old) }
     ensures items { history.new.items ≡ history.old.items }
     ensures len { vec_len history.new ≡ vec_len history.old }
     ensures capacity { vec_capacity history.old ≤ vec_capacity history.new }

@@ -6,13 +6,12 @@ use Rattle.std.proofs.lemmas.List.{at_drop_more, drop_all, take_all}
 use Rattle.std.proofs.lemmas.List.Sums.{sum_by_more, sum_by-cons}
 use Rattle.std.proofs.lemmas.List.FromFn.{get_or-map-range_with_len}
 use Rattle.std.proofs.lemmas.Bool.{and_parts, and_from, false≢true}
-use Rattle.channel_fsm.specs.declared.Rate.{Rate}
-use Rattle.channel_fsm.specs.declared.Rate.TheVariants as rate
-use Rattle.channel_fsm.specs.declared.Sub.{Sub}
-use Rattle.channel_fsm.specs.declared.Sub.TheVariants.{Full, Half0, Half1}
+use Rattle.timeslots.specs.declared.Rate.{Rate}
+use Rattle.timeslots.specs.declared.Rate.TheVariants as rate
+use Rattle.timeslots.specs.declared.Sub.{Sub}
+use Rattle.timeslots.specs.declared.Sub.TheVariants.{Full, Half0, Half1}
 use Rattle.channel_fsm.specs.declared.ChanId.{ChanId}
-use Rattle.channel_fsm.specs.Keys.{sub_number}
-use Rattle.channel_fsm.specs.Slots.{rate_of}
+use Rattle.timeslots.specs.Parts.{sub_number, rate_of}
 use Rattle.cell_table.specs.Site.{IsWithinLimits, TrafficLiesWithin, is_traffic}
 use Rattle.radio_tables.specs.State.{State}
 use Rattle.radio_tables.specs.Choice.{in_way, IsFreeIn, IsFreeAt, NoneFree, NoneFreeAt}

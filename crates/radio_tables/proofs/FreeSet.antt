@@ -13,7 +13,7 @@ use Rattle.std.proofs.lemmas.List.FromFn.{get_or-map-range_with_len, length-map-
 use Rattle.std.proofs.lemmas.Map.Keys.{IsDistinct-from_apart}
 use Rattle.std.proofs.lemmas.Map.Views.{any-filter_same}
 use Rattle.channel_fsm.specs.declared.ChanId.{ChanId}
-use Rattle.channel_fsm.specs.Keys.{sub_number}
+use Rattle.timeslots.specs.Parts.{sub_number}
 use Rattle.cell_table.specs.Site.{TrafficLiesWithin}
 use Rattle.radio_tables.specs.Keys.{chan_cmp}
 use Rattle.radio_tables.specs.State.{State}

@@ -2,9 +2,10 @@
 -- it nor one that conflicts with it is in use: a timeslot is used as a whole, or its halves are (TS 45.002 clause 6.4.1).
 use Rattle.std.specs.Prelude.{◌≡◌, ◌↔◌, ℕ, true, Option, None}
 use Rattle.std.specs.FinSet.{FinSet, contains, len}
-use Rattle.channel_fsm.specs.declared.Rate.{Rate}
+use Rattle.timeslots.specs.declared.Rate.{Rate}
 use Rattle.channel_fsm.specs.declared.ChanId.{ChanId}
-use Rattle.channel_fsm.specs.Slots.{rate_of, first_in_way}
+use Rattle.channel_fsm.specs.Slots.{first_in_way}
+use Rattle.timeslots.specs.Parts.{rate_of}
 use Rattle.cell_table.specs.Site.{is_traffic}
 use Rattle.radio_tables.specs.Keys.{chan_cmp}
 use Rattle.radio_tables.specs.State.{State, state_of}

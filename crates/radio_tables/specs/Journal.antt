@@ -1,7 +1,7 @@
 -- The stored inverses of an attempt, which follow from it. Ours, of no standard.
 use Rattle.std.specs.Prelude.{ℕ, List, [], Option, Some, None}
 use Rattle.std.specs.Option.{option_map}
-use Rattle.channel_fsm.specs.declared.Sub.TheVariants.{Full}
+use Rattle.timeslots.specs.declared.Sub.TheVariants.{Full}
 use Rattle.channel_fsm.specs.declared.ChanId.{ChanId}
 use Rattle.attempt_journal.specs.declared.Inverse.{Inverse}
 use Rattle.radio_tables.specs.declared.kinds.Stage.{Stage}

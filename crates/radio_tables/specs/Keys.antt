@@ -1,7 +1,7 @@
 -- By what order the tables keep channels and references, and how each is written as numbers. Ours, of no standard.
 use Rattle.std.specs.Prelude.{◌≡◌, ◌+◌, ◌*◌, ◌<◌, ℕ}
 use Rattle.channel_fsm.specs.declared.ChanId.{ChanId}
-use Rattle.channel_fsm.specs.Keys.{sub_number}
+use Rattle.timeslots.specs.Parts.{sub_number}
 pub use Rattle.channel_fsm.specs.Keys.{same_chan}
 pub use Rattle.dense_tables.specs.Keys.{chan_cmp, coded_chan, reference_cmp, coded_reference}
 

@@ -1,5 +1,5 @@
 //! What the book keeps of a call: its record, the timer that is armed for it, and what takes its attempt back.
-ghost use Rattle.std.specs.Prelude.{◌≡◌, Some, None, is_some};
+ghost use Rattle.std.specs.Prelude.{⊤, ◌≡◌, Some, None, is_some};
 ghost use Rattle.attempt_journal.specs.declared.Timer.TheVariants as timer;
 ghost use Rattle.radio_tables.specs.declared.kinds.AttemptKind.TheVariants.{Internal, Incoming};
 ghost use Rattle.radio_tables.specs.declared.kinds.Stage.TheVariants as stage;
@@ -50,6 +50,8 @@ impl PartialEq for CallEntry {
 
 impl Clone for CallEntry {
     ghost is_clone = { λ entry copy. copy ≡ entry };
+
+    ghost is_infallible = { λ _. ⊤ };
 
     fn clone(&self) -> Result<CallEntry, AllocError> {
         Ok(self.copy())

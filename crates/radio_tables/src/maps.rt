@@ -5,7 +5,8 @@ ghost use Rattle.std.specs.Cmp.{partial_equiv_from_equiv};
 ghost use Rattle.radio_tables.specs.Same.{is_same, is_same-IsEquivalence};
 ghost use Rattle.radio_tables.specs.State.{empty_book, state_of, state_code};
 ghost use Rattle.radio_tables.specs.Places.{sub_at, is_free_traffic, has_rate, is_free_at, channels_of, free_in};
-ghost use Rattle.channel_fsm.specs.Slots.{needs, is_used};
+ghost use Rattle.channel_fsm.specs.Slots.{is_used};
+ghost use Rattle.timeslots.specs.Parts.{needs};
 
 use crate::entry::CallEntry;
 use crate::kinds::{CallRecord, Reference};

@@ -6,7 +6,7 @@ use radio_book::event::{Event, Reply};
 use radio_book::records::Records;
 use radio_tables::DenseTables;
 use radio_tables::maps::MapTables;
-use radio_tables::tables::Tables;
+use radio_tables::tables::{CopyTables, Tables};
 use std::alloc::{AllocError, Allocator};
 use std::marker::Model;
 use std::sync::Arc;
@@ -39,6 +39,10 @@ impl<T: Tables> Sound<T> {
         self.records.tables()
     }
 
+    pub(super) fn chosen(&self, call: u16) -> u8 {
+        self.records.choose_number(call)
+    }
+
     pub(super) fn usage(&self) -> Usage {
         let records = &self.records;
         holds(
@@ -47,6 +51,13 @@ impl<T: Tables> Sound<T> {
             records.references(),
             records.timers(),
         )
+    }
+}
+
+impl<T: CopyTables> Sound<T> {
+    pub(super) fn copy(&self) -> Result<Sound<T>, AllocError> {
+        let records = self.records.copy()?;
+        Ok(Sound { records })
     }
 }
 

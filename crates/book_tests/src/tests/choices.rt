@@ -1,12 +1,12 @@
 //! Channels and numbers that the book chooses.
-use super::Ask::{ReserveAny, Step, TakeAny};
+use super::Ask::{OpenAny, ReserveAny, Step, TakeAny};
 use super::{Ask, Entry, STEADY, at_a_new_book, equals_at, put_to_book, step_all};
 use channel_fsm::{ChanId, Rate, Sub};
 use radio_book::book::Book;
 use radio_book::event::Event;
-use radio_book::event::Event::{Reserve, Take};
+use radio_book::event::Event::{Open, Reserve, Take};
 use radio_book::event::Kind::{Incoming, Internal};
-use radio_book::event::Refusal::{NoCall, RefBusy, SameCell, WrongPhase};
+use radio_book::event::Refusal::{CallExists, NoCall, RefBusy, SameCell, WrongPhase};
 use radio_book::event::Reply::{Done, Refused};
 use sample_sites::{HOME, OTHER, SCATTERED, TARGET, THREE_CHANNELS};
 use std::alloc::{AllocError, Global};
@@ -67,6 +67,28 @@ fn any_free_channel_is_taken(rt: HostRuntime) -> Result<(), Fail> {
     })
 }
 
+// None is free is answered before it is looked whether there is such a call.
+const ANY_OPENING: &[Asked] = &[
+    (OpenAny(1, 0), Some((Open(1, OTHER), Refused(CallExists)))),
+    (OpenAny(2, 2), None),
+    (OpenAny(2, 0), Some((Open(2, OTHER), Done))),
+    (OpenAny(1, 0), None),
+    (OpenAny(3, 0), None),
+    (OpenAny(3, 1), Some((Open(3, TARGET), Done))),
+    (OpenAny(4, 1), None),
+];
+
+fn calls_begin(rt: &impl Abort, book: &mut Book<Global>) -> Result<(), Fail> {
+    are_chosen(rt, book, STEADY, ANY_OPENING)?;
+    are_free(rt, book, &[(0, 0), (1, 0)]);
+    Ok(())
+}
+
+#[test]
+fn a_call_begins_on_any_free_channel(rt: HostRuntime) -> Result<(), Fail> {
+    at_a_new_book(&rt, THREE_CHANNELS, |rt, book| calls_begin(rt, book))
+}
+
 // A number that is in use in the cell is refused, and another chosen.
 const ANY_NUMBER: &[Asked] = &[
     (Step(Reserve(8, 5)), Some((Reserve(8, 5), Done))),
@@ -117,6 +139,23 @@ fn each_gets_the_lowest(rt: &impl Abort, book: &mut Book<Global>) -> Result<(), 
         "none is left",
     );
     Ok(())
+}
+
+fn each_begins_on_the_lowest(rt: &impl Abort, book: &mut Book<Global>) -> Result<(), Fail> {
+    for (call, trx, tn) in &LOWEST_CHANNELS {
+        let opened = book.open_any(*call, 0, Rate::Full)?;
+        let wanted = Open(*call, scattered(*trx, *tn));
+        equals_at(rt, opened, Some((wanted, Done)), call);
+    }
+    equals_at(rt, book.open_any(5, 0, Rate::Full)?, None, "none is left");
+    Ok(())
+}
+
+#[test]
+fn calls_begin_on_the_lowest_free_channel(rt: HostRuntime) -> Result<(), Fail> {
+    at_a_new_book(&rt, SCATTERED, |rt, book| {
+        each_begins_on_the_lowest(rt, book)
+    })
 }
 
 #[test]

@@ -1,10 +1,10 @@
 //! A desk goes on: each answer is an entry of its history, and the last receipt of its seat.
-use super::Ask::{ReserveAny, Step, TakeAny};
+use super::Ask::{OpenAny, ReserveAny, Step, TakeAny};
 use super::{Ask, Entry, at_a_new_desk, equals_at, holds};
 use channel_fsm::Rate;
 use radio_book::event::Event::{Activate, Command, Confirm, Look, Open, Reserve, Take};
 use radio_book::event::Kind;
-use radio_book::event::Refusal::{ChannelBusy, NoCall, WrongPhase};
+use radio_book::event::Refusal::{CallExists, ChannelBusy, NoCall, WrongPhase};
 use radio_book::event::Reply::{Done, Owned, Refused};
 use radio_desk::desk::{Desk, DeskFault};
 use radio_desk::seat::{Receipt, Seat};
@@ -21,6 +21,7 @@ pub(super) fn put<A: Allocator + Copy>(
     match ask {
         Step(event) => desk.judge(seat, event).map(Some),
         TakeAny(call, kind, cell) => desk.judge_take(seat, call, kind, cell, Rate::Full),
+        OpenAny(call, cell) => desk.judge_open(seat, call, cell, Rate::Full),
         ReserveAny(call) => desk.judge_reserve(seat, call).map(Some),
     }
 }
@@ -111,6 +112,28 @@ fn has_books(rt: &impl Abort, desk: &Desk<Global>) {
     equals_at(rt, desk.book().usage(), holds(2, 1, 1, 1), "the book");
 }
 
+// A call begins on the free channel of cell 0, and none is left there.
+const BEGINNING: &[(Ask, Entry)] = &[
+    (OpenAny(1, 0), Some((Open(1, OTHER), Refused(CallExists)))),
+    (OpenAny(2, 7), None),
+    (OpenAny(2, 0), Some((Open(2, OTHER), Done))),
+    (OpenAny(1, 0), None),
+    (OpenAny(3, 0), None),
+];
+
+fn begins(rt: &impl Abort, desk: &mut Desk<Global>) -> Result<(), Fail> {
+    let mut seat = Seat::new();
+    play(rt, desk, &mut seat, COURSE)?;
+    play(rt, desk, &mut seat, BEGINNING)?;
+    has_entries(rt, desk, 13);
+    Ok(())
+}
+
+#[test]
+fn a_call_begins_on_a_free_channel(rt: HostRuntime) -> Result<(), Fail> {
+    at_a_new_desk(&rt, |rt, desk| begins(rt, desk))
+}
+
 fn goes_on(rt: &impl Abort, desk: &mut Desk<Global>) -> Result<(), Fail> {
     let mut seat = Seat::new();
     equals_at(rt, seat.last(), None, "the receipt of a new seat");
@@ -124,4 +147,18 @@ fn goes_on(rt: &impl Abort, desk: &mut Desk<Global>) -> Result<(), Fail> {
 #[test]
 fn each_answer_is_an_entry_and_the_last_receipt(rt: HostRuntime) -> Result<(), Fail> {
     at_a_new_desk(&rt, |rt, desk| goes_on(rt, desk))
+}
+
+// A fault is printed so.
+fn is_printed(rt: &(impl AllocGlobal + Abort), fault: DeskFault, wanted: &str) -> Result<(), Fail> {
+    let text = format!(in rt.alloc(); "{fault}")?;
+    equals_at(rt, text.as_str(), wanted, fault);
+    Ok(())
+}
+
+#[test]
+fn faults_are_printed(rt: HostRuntime) -> Result<(), Fail> {
+    let foreign = DeskFault::Foreign(7);
+    is_printed(&rt, foreign, "the receipt of place 7 is of another desk")?;
+    is_printed(&rt, DeskFault::NoMemory, "memory was refused")
 }

@@ -1,5 +1,5 @@
 //! Memory is refused in each call of a book, in a rewind, which asks two runs, and in marks, which ask one.
-use super::Ask::{Step, TakeAny};
+use super::Ask::{OpenAny, Step, TakeAny};
 use super::{
     ACTIVATE, Ask, COMMAND, COMPLETE, CONFIRM, RELEASED, RESERVE, STEADY, TAKE, UNDO, book_of,
     channel_at, equals_at, holds, holds_at, put_to_book, step_all,
@@ -240,6 +240,7 @@ const TAKES: &[Takes] = &[
             Step(Open(1, HOME)),
             Step(Take(1, Incoming, TARGET)),
             TakeAny(1, Incoming, 1),
+            OpenAny(1, 1),
         ],
     ),
     (
@@ -248,6 +249,7 @@ const TAKES: &[Takes] = &[
             Step(Open(17, TARGET)),
             Step(Take(17, Incoming, TARGET)),
             TakeAny(17, Incoming, 1),
+            OpenAny(17, 1),
         ],
     ),
 ];

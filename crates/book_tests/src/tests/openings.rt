@@ -6,14 +6,14 @@ use super::{
 use radio_book::book::Book;
 use radio_book::event::Event;
 use radio_book::event::Event::{
-    Activate, Command, Complete, Confirm, Left, Open, Order, Owner, Released, Require, Reserve,
-    Take, Undo,
+    Activate, Command, Complete, Confirm, Left, Open, Order, Owner, Refuse, Released, Require,
+    Reserve, Take, Undo,
 };
 use radio_book::event::Kind::{Incoming, Internal};
 use radio_book::event::Timer::T8;
 use radio_book::event::Why::{Asked, Expired};
 use radio_book::rewind::{RewindFault, Rewound, rewind};
-use sample_sites::{OTHER, TARGET, THREE_CHANNELS};
+use sample_sites::{HALVED, LOWER, OTHER, TARGET, THREE_CHANNELS, UPPER, changed};
 use std::alloc::{AllocError, Global};
 use std::process::Abort;
 use std::test::Fail;
@@ -84,6 +84,56 @@ const OPENINGS: &[Opening] = &[
     (13, &[13, 14, 15], true, None),
     (24, &[24, 28, 29, 30, 32], false, Some(31)),
     (34, &[34, 35, 37], true, None),
+];
+
+// Lists of events behind call 1 at rest, each with the attempt that opens first.
+const WORKED: &[(&[Event], Opening)] = &[
+    // a call begins between the steps of the attempt
+    (
+        &[
+            TAKE,
+            RESERVE,
+            ACTIVATE,
+            CONFIRM,
+            Open(2, OTHER),
+            Command(1),
+            UNDO,
+            RELEASED,
+        ],
+        (0, &[0, 1, 2, 3, 5, 6, 7], true, None),
+    ),
+    // a call begins on a target that the station refused
+    (
+        &[
+            TAKE,
+            RESERVE,
+            ACTIVATE,
+            Refuse(TARGET),
+            UNDO,
+            Open(2, TARGET),
+        ],
+        (0, &[0, 1, 2, 3, 4], true, None),
+    ),
+    // the station's confirmation comes too late
+    (
+        &[TAKE, RESERVE, ACTIVATE, UNDO, CONFIRM, RELEASED],
+        (0, &[0, 1, 2, 3, 4, 5], true, None),
+    ),
+    // a call is refused for the target
+    (&[TAKE, Open(2, TARGET), UNDO], (0, &[0, 2], true, Some(1))),
+    // a call begins while the attempt asks another controller
+    (
+        &[Require(1), Open(2, OTHER), Order(1), UNDO],
+        (0, &[0, 2, 3], true, None),
+    ),
+];
+
+// The lower half of a timeslot is the target; the upper half is in the way of the whole timeslot, with and without the attempt.
+const BESIDE: &[Event] = &[
+    Take(1, Internal, LOWER),
+    Open(2, UPPER),
+    UNDO,
+    Take(3, Incoming, TARGET),
 ];
 
 fn finds_none(
@@ -160,4 +210,39 @@ fn undone_openings_and_held_refusals_are_found(rt: HostRuntime) -> Result<(), Fa
     at_a_new_book(&rt, THREE_CHANNELS, |rt, book| {
         each_is_found(rt, book, OPENINGS)
     })
+}
+
+fn each_worked_one_is_found(
+    rt: &(impl AllocGlobal + Abort),
+    book: &mut Book<Global>,
+) -> Result<(), Fail> {
+    step_all(book, STEADY)?;
+    for (events, opening) in WORKED {
+        rewinds(rt, book, *events, *opening)?;
+    }
+    Ok(())
+}
+
+#[test]
+fn others_of_worked_attempts_are_listed(rt: HostRuntime) -> Result<(), Fail> {
+    at_a_new_book(&rt, THREE_CHANNELS, |rt, book| {
+        each_worked_one_is_found(rt, book)
+    })
+}
+
+// A timeslot with halves counts as three channels, and as one while a half of it is held.
+fn halves_are_apart(rt: &(impl AllocGlobal + Abort), book: &mut Book<Global>) -> Result<(), Fail> {
+    step_all(book, STEADY)?;
+    rewinds(rt, book, BESIDE, (0, &[0, 2], true, None))?;
+    equals_at(rt, book.free_in(1), 3, "none is held");
+    step_all(book, &[Take(1, Internal, LOWER)])?;
+    equals_at(rt, book.free_in(1), 1, "a half is held");
+    Ok(())
+}
+
+#[test]
+fn halves_are_counted_and_left_to_others(rt: HostRuntime) -> Result<(), Fail> {
+    let (whole, halved) = HALVED;
+    let site = changed(rt.alloc(), THREE_CHANNELS, whole, halved)?.expect(&rt, whole);
+    at_a_new_book(&rt, &site, |rt, book| halves_are_apart(rt, book))
 }

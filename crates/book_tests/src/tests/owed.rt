@@ -105,6 +105,12 @@ fn owed_events_go_through(
         None,
         "a free channel",
     );
+    equals_at(
+        rt,
+        desk.judge_open(seat, 2, 1, Rate::Full)?,
+        None,
+        "a free channel for a call",
+    );
     for (event, reply) in OWED {
         equals_at(rt, desk.judge(seat, *event)?.reply, *reply, *event);
     }

@@ -1,7 +1,7 @@
 //! The free traffic timeslots of each TRX that a site can have, for each part of a timeslot.
 ghost use Rattle.std.specs.Prelude.{◌≡◌, ◌≢◌, ◌<◌, ◌≤◌, Some, None, IfOk, IfSome, IfNone, length, count_by, ℕ, ◌*◌, ◌/◌, ◌%◌, ◌&&◌, is_some};
 ghost use Rattle.channel_fsm.specs.Masks.{has, timeslots};
-ghost use Rattle.channel_fsm.specs.declared.Sub.{Sub};
+ghost use Rattle.timeslots.specs.declared.Sub.{Sub};
 ghost use Rattle.channel_fsm.specs.declared.ChanId.{ChanId};
 ghost use Rattle.cell_table.specs.Site.{IsWithinLimits, is_traffic, trx_channels};
 ghost use Rattle.dense_tables.specs.Channels.{sub_at, mask_place, mask_at, place_at, is_free_by, is_part_free, state_by, IsMaskedAt, IsMaskedWith, IsFirstWith, IsFirstAt, lower_of, IsNoLater, channels_of};

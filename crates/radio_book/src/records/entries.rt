@@ -6,7 +6,8 @@ ghost use Rattle.cell_table.specs.Site.{TrafficLiesWithin, is_traffic};
 ghost use Rattle.channel_fsm.specs.declared.ChanState.TheVariants as chan;
 ghost use Rattle.radio_tables.specs.State.{with_kept};
 ghost use Rattle.radio_book.specs.State.{apply, state_of, record_of};
-ghost use Rattle.channel_fsm.specs.Slots.{needs, is_used};
+ghost use Rattle.channel_fsm.specs.Slots.{is_used};
+ghost use Rattle.timeslots.specs.Parts.{needs};
 ghost use Rattle.radio_book.specs.Table.{in_way, no_change, with_entry, without_entry};
 
 use crate::event::{CallRecord, Reference};

@@ -1,6 +1,6 @@
 use Rattle.std.proofs.Common.{◌+◌, ◌-◌, ◌<◌, ◌≡◌, ◌∷◌, [], ◌++◌, length, take, drop, set, get_or, ap, sym, ◌∙◌, arith}
 use Rattle.std.proofs.lemmas.List.{length-set, take_more, take-set}
-use Rattle.channel_fsm.specs.declared.Sub.TheVariants.{Full}
+use Rattle.timeslots.specs.declared.Sub.TheVariants.{Full}
 use Rattle.attempt_journal.specs.declared.Inverse.TheVariants.{Settle, FreeChannel}
 use Rattle.attempt_journal.specs.Padding.{pad}
 use Rattle.attempt_journal.proofs.PadFacts.{popped_rest}

@@ -1,5 +1,5 @@
 use Rattle.std.proofs.Common.{◌≡◌, ◌+◌, [], ◌∷◌, ◌++◌, drop, get_or, sym, ◌∙◌, ap, append_assoc, add-one, drop-cons}
-use Rattle.channel_fsm.specs.declared.Sub.TheVariants.{Full}
+use Rattle.timeslots.specs.declared.Sub.TheVariants.{Full}
 use Rattle.radio_book.specs.declared.event.Event.TheVariants.{Open}
 use Rattle.radio_book.specs.Table.{reply_to}
 use Rattle.radio_book.specs.Run.{run_book, run_replies}

@@ -1,6 +1,6 @@
 use Rattle.std.proofs.Common.{◌≡◌, IfSome, IfNone, sym, subst}
 use Rattle.channel_fsm.specs.declared.ChanId.{ChanId}
-use Rattle.channel_fsm.specs.declared.Rate.TheVariants as rate
+use Rattle.timeslots.specs.declared.Rate.TheVariants as rate
 use Rattle.dense_tables.specs.Channels.{IsFirstAt, IsMaskedAt}
 use Rattle.dense_tables.proofs.Masked.{first_whole, none_whole, first_half, no_half}
 use Rattle.dense_tables.proofs.channels.masks.lowest_of_trx.Goals as goal
