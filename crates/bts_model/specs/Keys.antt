@@ -3,7 +3,8 @@ use Rattle.std.specs.Prelude.{ℕ, Bool, ◌==◌, ◌&&◌, refl}
 use Rattle.std.specs.declared.cmp.Ordering.{Ordering}
 use Rattle.std.specs.Ordering.{nat_cmp, ordering_then}
 use Rattle.std.specs.Coded.{Coded, code_by, coded×, coded_ℕ}
-use Rattle.channel_fsm.specs.Keys.{sub_number, same_chan}
+use Rattle.channel_fsm.specs.Keys.{same_chan}
+use Rattle.timeslots.specs.Parts.{sub_number}
 use Rattle.bts_model.specs.declared.place.Place.{Place}
 use Rattle.bts_model.specs.declared.place.Key.{Key}
 

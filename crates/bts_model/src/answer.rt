@@ -102,6 +102,6 @@ fn from_mobile<A: Allocator + Copy>(
     Ok(Rsl::DataIndication {
         channel,
         link: MAIN_SIGNALLING,
-        layer3: Octets::new(alloc, octets.as_slice())?,
+        layer3: Octets::from_vec(octets),
     })
 }

@@ -1,5 +1,5 @@
 //! The simulated world.
-ghost use Rattle.std.specs.Prelude.{◌≡◌, ◌≢◌, ◌↔◌, ◌<◌, ◌⊎◌, Option, [], true, map, IsTrue, IsSome, IfOk, OnErr, None, Some};
+ghost use Rattle.std.specs.Prelude.{◌≡◌, ◌≢◌, ◌<◌, ◌⊎◌, Option, [], true, map, IsSome, IfOk, OnErr, None, Some};
 ghost use Rattle.std.specs.FinMap as finite;
 ghost use Rattle.rsl_messages.specs.Messages.{HasOctets};
 ghost use Rattle.rsl_messages.specs.Texts.{IsTextOf};
@@ -27,7 +27,7 @@ use cell_table::Site;
 use channel_fsm::{Sub, conflicts};
 use rr_messages::Rr;
 use rsl_messages::values::MAIN_SIGNALLING;
-use rsl_messages::{Rsl, RslFault, decode};
+use rsl_messages::{Rsl, decode};
 use std::alloc::{AllocError, Allocator, Global};
 use std::marker::Model;
 use std::sync::Arc;
@@ -410,26 +410,11 @@ fn message_in<A: Allocator + Copy>(alloc: A, octets: &[u8]) -> Result<Option<Rsl
     match decode(alloc, octets) {
         Ok(message) => Ok(Some(message)),
         Err(fault) => {
-            if is_memory(fault) {
+            if fault.is_memory() {
                 Err(AllocError)
             } else {
                 Ok(None)
             }
         }
-    }
-}
-
-/// Memory was refused.
-fn is_memory(fault: RslFault) -> bool
-    ensures { IsTrue result ↔ (fault ≡ RslFault.NoMemory) }
-{
-    match fault {
-        RslFault::NoMemory => true,
-        RslFault::NotRsl
-        | RslFault::UnknownType(_)
-        | RslFault::Missing(_)
-        | RslFault::BadElement(_)
-        | RslFault::Torn(_)
-        | RslFault::TooLong => false,
     }
 }

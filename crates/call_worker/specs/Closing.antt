@@ -1,15 +1,17 @@
 -- What a closed office leaves. Ours, of no standard.
-use Rattle.std.specs.Prelude.{◌≢◌, ℕ, List, [], ◌∷◌, ◌++◌}
+use Rattle.std.specs.Prelude.{◌≡◌, ◌≢◌, ℕ, List, [], ◌∷◌, ◌++◌}
 use Rattle.std.specs.List.{flat_map}
 use Rattle.radio_book.specs.State.{State}
 use Rattle.radio_book.specs.Run.{Leads}
 use Rattle.radio_desk.specs.declared.seat.Receipt.{Receipt}
 use Rattle.radio_desk.specs.Desk.{DeskState}
+use Rattle.radio_desk.specs.Receipts.{IsRising}
 use Rattle.ho_procedure.specs.Sent.{Sent}
 use Rattle.receipt_check.specs.declared.CloseFault.{CloseFault}
 use Rattle.receipt_check.specs.declared.CloseFault.TheVariants.{Missing, Twice, Count, Opening, NoMemory}
 use Rattle.receipt_check.specs.Gathering.{Gathers, IsGatherFault}
 use Rattle.call_worker.specs.declared.posted.WorkerEnd.{WorkerEnd}
+use Rattle.call_worker.specs.declared.office.Unclosed.{Unclosed}
 use Rattle.call_worker.specs.States.{WorkerState, OfficeState}
 use Rattle.call_worker.specs.Ending.{IsEnd}
 
@@ -28,10 +30,11 @@ IsCloseFault opening d all Count = IsGatherFault d.history all Count
 IsCloseFault opening d all Opening = Gathers d.history all × (d.opening ≢ opening)
 IsCloseFault opening d all NoMemory = IsGatherFault d.history all NoMemory
 
--- Why an office doesn't close: of the desk that was found, of the ends of its workers, and of all receipts something isn't so.
-pub record ClosesNot {L A : Type 0} (passed : L → List Sent) (refused : L → ℕ) (office : OfficeState L A) (fault : CloseFault) : Type 0 where
-  pub desk : DeskState
-  pub ends : List (WorkerEnd L A)
-  pub legal : Leads desk.opening desk.history desk.book
-  pub are_ends : AreEnds passed refused office.workers ends
-  pub why : IsCloseFault office.opening desk (office.front ++ flat_map (λ worker. worker.receipts.items) ends) fault
+-- Why an office doesn't close: what is handed out are a desk, the office's receipts and the ends of its workers, and of these
+-- something isn't so.
+pub record ClosesNot {L A : Type 0} (passed : L → List Sent) (refused : L → ℕ) (office : OfficeState L A) (unclosed : Unclosed L A) : Type 0 where
+  pub legal : Leads unclosed.left.desk.opening unclosed.left.desk.history unclosed.left.desk.book
+  pub front : unclosed.left.front.items ≡ office.front
+  pub rising : IsRising unclosed.left.front.items
+  pub workers : AreEnds passed refused office.workers unclosed.left.workers.items
+  pub why : IsCloseFault office.opening unclosed.left.desk (unclosed.left.front.items ++ flat_map (λ worker. worker.receipts.items) unclosed.left.workers.items) unclosed.fault

@@ -21,6 +21,7 @@ use Rattle.call_worker.specs.States.{WorkerState, OfficeState, with_input}
 -- the call that an operator's line is about
 abbrev pub call_of : Line → ℕ
 call_of (line.Open c x) = c
+call_of (line.Seize c cell rate) = c
 call_of (line.Handover c cell) = c
 call_of (line.Undo c) = c
 call_of (line.Clear c) = c

@@ -5,3 +5,4 @@ pub mod Finishing
 pub mod Ending
 pub mod Giving
 pub mod Closing
+pub mod Points

@@ -112,6 +112,7 @@ fn call_of(line: &Line) -> u16
 {
     match line {
         Line::Open { call, .. }
+        | Line::Seize { call, .. }
         | Line::Handover { call, .. }
         | Line::Undo { call }
         | Line::Clear { call } => *call,

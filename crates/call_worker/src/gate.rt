@@ -1,5 +1,6 @@
 //! A seat at a shared desk that tells a gate how far calls have come.
 ghost use Rattle.std.specs.Prelude.{◌≡◌, length};
+ghost use Rattle.call_worker.specs.Points.{point_of, told_of};
 
 use channel_fsm::Rate;
 use ho_procedure::shared::Shared;
@@ -44,7 +45,9 @@ impl<R: Wait + Drop, G: Gate + Drop, A: Allocator> Model for Gated<R, G, A> {
 }
 
 /// The call that comes to a point by the event, once it is accepted.
-fn point_of(event: Event) -> Option<(u16, Point)> {
+fn point_of(event: Event) -> Option<(u16, Point)>
+    ensures { result ≡ point_of event }
+{
     match event {
         Event::Command(call) => Some((call, Point::Commanded)),
         Event::Complete(call) | Event::Undo(call, _) => Some((call, Point::Answered)),
@@ -63,6 +66,16 @@ fn point_of(event: Event) -> Option<(u16, Point)> {
         | Event::Order(_)
         | Event::Left(_) => None,
     }
+}
+
+/// What a gate is told of a receipt.
+fn told_of(receipt: &Receipt) -> Option<(u16, Point)>
+    ensures { result ≡ told_of receipt.now }
+{
+    if !receipt.reply.is_accepted() {
+        return None;
+    }
+    point_of(receipt.event)
 }
 
 impl<R: Wait + Drop, G: Gate + Drop, A: Allocator + Copy> Gated<R, G, A> {
@@ -87,10 +100,7 @@ impl<R: Wait + Drop, G: Gate + Drop, A: Allocator + Copy> Gated<R, G, A> {
     }
 
     fn tell(&self, receipt: &Receipt) {
-        if !receipt.reply.is_accepted() {
-            return;
-        }
-        if let Some((call, point)) = point_of(receipt.event) {
+        if let Some((call, point)) = told_of(receipt) {
             self.gate.pass(call, point);
         }
     }
@@ -120,6 +130,15 @@ impl<R: Wait + Drop, G: Gate + Drop, A: Allocator + Copy> DeskView for Gated<R, 
         rate: Rate,
     ) -> Result<Option<Receipt>, DeskFault> {
         self.shared.judge_take(call, kind, cell, rate)
+    }
+
+    fn judge_open(
+        &mut self,
+        call: u16,
+        cell: u8,
+        rate: Rate,
+    ) -> Result<Option<Receipt>, DeskFault> {
+        self.shared.judge_open(call, cell, rate)
     }
 
     fn judge_reserve(&mut self, call: u16) -> Result<Receipt, DeskFault> {

@@ -18,7 +18,7 @@ mod worker;
 pub use fault::{GiveFault, StartFault};
 pub use gate::{Gate, Point};
 pub use links::{Links, copy_of};
-pub use office::{Closed, Office};
+pub use office::{Closed, Office, Unclosed};
 pub use posted::WorkerEnd;
 pub use receipt_check::{CloseFault, gather};
 pub use worker::Turn;

@@ -29,7 +29,7 @@ use std::mem;
 use std::sync::{Arc, Mutex, Wait};
 use std::thread::Threads;
 
-/// What a closed office leaves.
+/// What an office leaves.
 #[derive(Drop)]
 pub struct Closed<L, A: Allocator = Global> {
     /// The desk. Its history leads from the book that it opened with to its book.
@@ -38,6 +38,15 @@ pub struct Closed<L, A: Allocator = Global> {
     pub front: Vec<Receipt, A>,
     /// What each worker did, in the order of the links that the office was started with.
     pub workers: Vec<WorkerEnd<L, A>, A>,
+}
+
+/// Why an office doesn't close, and of what that isn't so. Its workers have ended.
+#[derive(Drop)]
+pub struct Unclosed<L, A: Allocator = Global> {
+    /// What isn't so of the desk and of the receipts.
+    pub fault: CloseFault,
+    /// The desk, and what the office and its workers did there.
+    pub left: Closed<L, A>,
 }
 
 /// Workers at one desk, each on a thread of its own, and the thread that owns the office: the only one that gives them
@@ -113,7 +122,10 @@ impl<R: Threads + Wait + Drop, L: Links + Drop, A: Allocator + Copy> Office<R, L
     /// is empty, and the links have refused no message. `gate` is told how far calls have come.
     ///
     /// Each worker is a controller of the site of the desk's book, with a seat of its own at the desk and no report of any
-    /// call. It waits only where it is refused: for the workers that were started, until they have ended.
+    /// call.
+    ///
+    /// `Thread`: the system refused a worker its thread, as where the user has as many processes and threads as it may have
+    /// (`RLIMIT_NPROC`). After a fault the workers that were started have ended. It waits only for this.
     pub fn start<G: Gate + Drop + Send + Sync + 'static>(
         rt: R,
         alloc: A,
@@ -172,7 +184,9 @@ impl<R: Threads + Wait + Drop, L: Links + Drop, A: Allocator + Copy> Office<R, L
     /// What came of each input is as `Controller::handle` says, and its receipts are cut by the turns. Its links passed on
     /// the messages of its turns, in their order; where they refused some, those that they passed on and those that they
     /// refused are as many.
-    pub fn close(self) -> Result<Closed<L, A>, CloseFault>
+    ///
+    /// Where something of this isn't so, the fault is of the desk, the receipts and the workers that are handed out with it.
+    pub fn close(self) -> Result<Closed<L, A>, Unclosed<L, A>>
         ensures opening { IfOk result (λ closed. closed.desk.opening ≡ self.opening) }
         ensures legal { IfOk result (λ closed.
             Leads closed.desk.opening closed.desk.history closed.desk.book) }
@@ -183,7 +197,7 @@ impl<R: Threads + Wait + Drop, L: Links + Drop, A: Allocator + Copy> Office<R, L
         ensures rising { IfOk result (λ closed. IsRising closed.front.items) }
         ensures workers { IfOk result (λ closed.
             AreEnds L.passed L.refused self.workers closed.workers.items) }
-        ensures fault { IfErr result (λ fault. ClosesNot L.passed L.refused self fault) }
+        ensures fault { IfErr result (λ unclosed. ClosesNot L.passed L.refused self unclosed) }
     {
         let Office {
             rt,
@@ -199,13 +213,15 @@ impl<R: Threads + Wait + Drop, L: Links + Drop, A: Allocator + Copy> Office<R, L
         let desk = mem::replace(&mut *lock.lock(&rt), spare);
         let front = front.into_receipts();
         let _entries = desk.len();
-        if let Err(fault) = is_whole(alloc, &desk, &opening, front.as_slice(), workers.as_slice()) {
-            return Err(fault);
-        }
-        Ok(Closed {
+        let whole = is_whole(alloc, &desk, &opening, front.as_slice(), workers.as_slice());
+        let left = Closed {
             desk,
             front,
             workers,
-        })
+        };
+        match whole {
+            Ok(()) => Ok(left),
+            Err(fault) => Err(Unclosed { fault, left }),
+        }
     }
 }

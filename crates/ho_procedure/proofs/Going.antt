@@ -1,22 +1,22 @@
 -- Steps that are put together, and what each comes to.
 use Rattle.std.proofs.Common.{◌≡◌, ℕ, List, [], ◌∷◌, ◌++◌, refl, sym, ◌∙◌, ap, subst, append_assoc, append-nil, inl, inr}
 use Rattle.channel_fsm.specs.declared.ChanId.{ChanId}
-use Rattle.channel_fsm.specs.declared.Rate.{Rate}
-use Rattle.channel_fsm.specs.Slots.{rate_of}
+use Rattle.timeslots.specs.declared.Rate.{Rate}
+use Rattle.timeslots.specs.Parts.{rate_of}
 use Rattle.cell_table.specs.Site.{SiteView}
 use Rattle.rr_elements.specs.MeasResults.{Results}
 use Rattle.ho_candidates.specs.declared.listed.Candidate.{Candidate}
 use Rattle.ho_candidates.specs.Candidates.{SomeCandidate}
 use Rattle.radio_book.specs.declared.event.Kind.{Kind}
 use Rattle.radio_book.specs.declared.event.Event.{Event}
-use Rattle.radio_book.specs.declared.event.Event.TheVariants.{Take, Reserve}
+use Rattle.radio_book.specs.declared.event.Event.TheVariants.{Open, Take, Reserve}
 use Rattle.radio_book.specs.declared.event.Reply.{Reply}
 use Rattle.radio_book.specs.Kinds.{is_accepted}
 use Rattle.radio_desk.specs.declared.desk.DeskFault.{DeskFault}
 use Rattle.radio_desk.specs.declared.desk.DeskFault.TheVariants.{Foreign, NoMemory}
 use Rattle.ho_procedure.specs.Claims.{Entry, Claim, NoneFree, Chosen, UnknownReceipt, MayBeRefused, TakeMayBeRefused, IsForeign, IsNoMemory}
 use Rattle.ho_procedure.specs.Sent.{Sent}
-use Rattle.ho_procedure.specs.Plan.{Room, Plan, Ends, Readies, Asks, Takes, Reserves, Sends, Notes, Ranks, Step, Readied, Asked, Chose, FoundNone, Posted, Noted, Ranked, AreCandidates, Moves, Leads, AsksDesk, TakesMemory, MayLack, Until, At, AtMemory, AtDesk, LeadsUntil, entries_in, entries_of, messages_in, messages_of, ChoiceIn, ChoicesAt, call_dropped, dropped_if, reports_by, reports_after}
+use Rattle.ho_procedure.specs.Plan.{Room, Plan, Ends, Readies, Asks, Takes, Opens, Reserves, Sends, Notes, Ranks, Step, Readied, Asked, Chose, FoundNone, Posted, Noted, Ranked, AreCandidates, Moves, Leads, AsksDesk, TakesMemory, MayLack, Until, At, AtMemory, AtDesk, LeadsUntil, entries_in, entries_of, messages_in, messages_of, ChoiceIn, ChoicesAt, call_dropped, dropped_if, reports_by, reports_after}
 use Rattle.ho_procedure.specs.declared.work.Work.{Work}
 use Rattle.ho_procedure.specs.Going.{Run, Goes, Passes, MayStop, last_reports, stops_at}
 
@@ -61,6 +61,7 @@ lack-said says says' Ends k f = f
 lack-said says says' (Readies room next) k f = tt
 lack-said says says' (Asks e next) k f = k (MayBeRefused e) f
 lack-said says says' (Takes c kind cell rate none next) k f = k (TakeMayBeRefused cell rate) f
+lack-said says says' (Opens c cell rate none next) k f = k (TakeMayBeRefused cell rate) f
 lack-said says says' (Reserves c next) k f = λ n. k (MayBeRefused (Reserve c n)) (f n)
 lack-said says says' (Sends m next) k f = f
 lack-said says says' (Notes c reports next) k f = f
@@ -102,6 +103,7 @@ asking_takes Ends asks = asks
 asking_takes (Readies room next) asks = absurd asks
 asking_takes (Asks e next) asks = tt
 asking_takes (Takes c k cell rate none next) asks = tt
+asking_takes (Opens c cell rate none next) asks = tt
 asking_takes (Reserves c next) asks = tt
 asking_takes (Sends m next) asks = asks
 asking_takes (Notes c reports next) asks = asks
@@ -129,6 +131,13 @@ pub untaken : {D A : Type 0} (log : D → List Entry) (says : D → List Entry �
     → ((es : List Entry) → (claim : Claim) → says w'.view es claim → says w.view es claim) → ((place : ℕ) → IsForeign f place → says w.view (log w.view) (UnknownReceipt place))
     → (IsNoMemory f → says w.view (log w.view) (TakeMayBeRefused cell rate)) → Goes log says w (Takes c kind cell rate none next) w' (stops_at f)
 untaken log says w w' f c kind cell rate none next l o n i k h m = waits log says w w' f (Takes c kind cell rate none next) l o n i k h m tt
+
+-- a call begun on a channel
+pub unopened : {D A : Type 0} (log : D → List Entry) (says : D → List Entry → Claim → Type 0) (w w' : Work D A) (f : DeskFault) (c cell : ℕ) (rate : Rate) (none : Plan) (next : ChanId → Reply → Plan)
+    → log w'.view ≡ log w.view → w'.owed.items ≡ w.owed.items → ((call : ℕ) → last_reports w'.windows call ≡ last_reports w.windows call) → w'.windows.width ≡ w.windows.width
+    → ((es : List Entry) → (claim : Claim) → says w'.view es claim → says w.view es claim) → ((place : ℕ) → IsForeign f place → says w.view (log w.view) (UnknownReceipt place))
+    → (IsNoMemory f → says w.view (log w.view) (TakeMayBeRefused cell rate)) → Goes log says w (Opens c cell rate none next) w' (stops_at f)
+unopened log says w w' f c cell rate none next l o n i k h m = waits log says w w' f (Opens c cell rate none next) l o n i k h m tt
 
 -- and a reference reserved
 pub unreserved : {D A : Type 0} (log : D → List Entry) (says : D → List Entry → Claim → Type 0) (w w' : Work D A) (f : DeskFault) (c : ℕ) (next : ℕ → Reply → Plan)
@@ -196,6 +205,19 @@ pub found_none : {D A : Type 0} (log : D → List Entry) (says : D → List Entr
     → ((es : List Entry) → (claim : Claim) → says w'.view es claim → says w.view es claim) → Passes log says w (Takes c kind cell rate none next) w' none
 found_none log says w w' c kind cell rate none next m l o n k =
     moved log says w w' (Takes c kind cell rate none next) (FoundNone cell rate) none (inl (refl, refl)) (l ∙ sym (append-nil (log w.view))) (ap (λ y. y.items) o ∙ sym (append-nil w.owed.items)) m (λ call. ap (λ y. last_reports y call) n) (ap (λ y. y.width) n) k
+
+pub began : {D A : Type 0} (log : D → List Entry) (says : D → List Entry → Claim → Type 0) (w w' : Work D A) (c cell : ℕ) (rate : Rate) (x : ChanId) (r : Reply) (none : Plan) (next : ChanId → Reply → Plan)
+    → x.cell ≡ cell → rate_of x.sub ≡ rate → log w'.view ≡ log w.view ++ (Open c x, r) ∷ [] → says w.view (log w.view) (Chosen (Open c x)) → w'.owed ≡ w.owed
+    → ((call : ℕ) → last_reports w'.windows call ≡ dropped_if (is_accepted r) (call_dropped (Open c x)) call (last_reports w.windows call)) → w'.windows.width ≡ w.windows.width
+    → ((es : List Entry) → (claim : Claim) → says w'.view es claim → says w.view es claim) → Passes log says w (Opens c cell rate none next) w' (next x r)
+began log says w w' c cell rate x r none next h is l m o n i k =
+    moved log says w w' (Opens c cell rate none next) (Chose (Open c x) r) (next x r) (inr (x, r, h, is, refl, refl)) l (ap (λ y. y.items) o ∙ sym (append-nil w.owed.items)) m n i k
+
+pub began_on_none : {D A : Type 0} (log : D → List Entry) (says : D → List Entry → Claim → Type 0) (w w' : Work D A) (c cell : ℕ) (rate : Rate) (none : Plan) (next : ChanId → Reply → Plan)
+    → says w.view (log w.view) (NoneFree cell rate) → log w'.view ≡ log w.view → w'.owed ≡ w.owed → w'.windows ≡ w.windows
+    → ((es : List Entry) → (claim : Claim) → says w'.view es claim → says w.view es claim) → Passes log says w (Opens c cell rate none next) w' none
+began_on_none log says w w' c cell rate none next m l o n k =
+    moved log says w w' (Opens c cell rate none next) (FoundNone cell rate) none (inl (refl, refl)) (l ∙ sym (append-nil (log w.view))) (ap (λ y. y.items) o ∙ sym (append-nil w.owed.items)) m (λ call. ap (λ y. last_reports y call) n) (ap (λ y. y.width) n) k
 
 pub reserved : {D A : Type 0} (log : D → List Entry) (says : D → List Entry → Claim → Type 0) (w w' : Work D A) (c n : ℕ) (r : Reply) (next : ℕ → Reply → Plan)
     → log w'.view ≡ log w.view ++ (Reserve c n, r) ∷ [] → says w.view (log w.view) (Chosen (Reserve c n)) → w'.owed ≡ w.owed → w'.windows ≡ w.windows

@@ -2,17 +2,17 @@
 use Rattle.std.proofs.Common.{◌≡◌, ◌≢◌, ◌↔◌, IsTrue, ℕ, List, [], ◌∷◌, ◌++◌, Option, Some, None, Result, Ok, Err, IfOk, IfErr, OnErr, IfSome, MatchOption, refl, sym, subst}
 use Rattle.std.proofs.lemmas.Bool.{false≢true}
 use Rattle.channel_fsm.specs.declared.ChanId.{ChanId}
-use Rattle.channel_fsm.specs.declared.Rate.{Rate}
-use Rattle.channel_fsm.specs.Slots.{rate_of}
+use Rattle.timeslots.specs.declared.Rate.{Rate}
+use Rattle.timeslots.specs.Parts.{rate_of}
 use Rattle.radio_book.specs.declared.event.Kind.{Kind}
 use Rattle.radio_book.specs.declared.event.Event.{Event}
-use Rattle.radio_book.specs.declared.event.Event.TheVariants.{Take, Reserve}
+use Rattle.radio_book.specs.declared.event.Event.TheVariants.{Open, Take, Reserve}
 use Rattle.radio_book.specs.State.{State}
 use Rattle.radio_book.specs.Table.{reply_to}
 use Rattle.radio_book.specs.Kinds.{is_accepted}
 use Rattle.radio_book.specs.Owed.{is_owed}
 use Rattle.radio_book.specs.Run.{Leads}
-use Rattle.radio_book.specs.Choice.{IsFreeIn, TakesFree, ReservesFree}
+use Rattle.radio_book.specs.Choice.{IsFreeIn, TakesFree, OpensFree, ReservesFree}
 use Rattle.radio_book.specs.Choice as free
 use Rattle.radio_desk.specs.declared.seat.Receipt.{Receipt}
 use Rattle.radio_desk.specs.declared.desk.DeskFault.{DeskFault}
@@ -76,6 +76,18 @@ take_chooses d d' c kind cell rate X (Ok (Some r)) legal none same takes judged 
     let here : IsFreeIn d.book x.cell x = subst (λ k. IsFreeIn d.book k x) (sym takes.1.free.in_cell) takes.1.free in
     let there : IsThere d.book r.event = subst (λ e. IsThere d.book e) (sym takes.2) here in
     ((x, takes.1.free.in_cell, takes.1.rate, takes.2), (d.book, legal, there), judged.history)
+
+pub open_chooses : (d d' : DeskState) (c cell : ℕ) (rate : Rate) (X : Type 0) (result : Result (Option Receipt) DeskFault)
+    → Leads d.opening d.history d.book → (result ≡ Ok None → free.NoneFreeAt d.book cell rate) → (result ≡ Ok None → IsSameDesk d d' × X)
+    → IfOk result (λ answer. IfSome answer (λ r. OpensFree d.book c cell rate r.event)) → IfOk result (λ answer. IfSome answer (λ r. IsJudged d r d'))
+    → IfOk result (λ answer. MatchOption answer ((d'.history ≡ d.history) × IsTrueAfter d.opening d.history (NoneFree cell rate)) (λ r. ((x : ChanId) × (x.cell ≡ cell) × (rate_of x.sub ≡ rate) × (r.event ≡ Open c x)) × IsTrueAfter d.opening d.history (Chosen r.event) × (d'.history ≡ d.history ++ (r.event, r.reply) ∷ [])))
+open_chooses d d' c cell rate X (Err f) legal none same opens judged = tt
+open_chooses d d' c cell rate X (Ok None) legal none same opens judged = ((same refl).0.history, (d.book, legal, none refl))
+open_chooses d d' c cell rate X (Ok (Some r)) legal none same opens judged =
+    let x = opens.0 in
+    let here : IsFreeIn d.book x.cell x = subst (λ k. IsFreeIn d.book k x) (sym opens.1.free.in_cell) opens.1.free in
+    let there : IsThere d.book r.event = subst (λ e. IsThere d.book e) (sym opens.2) here in
+    ((x, opens.1.free.in_cell, opens.1.rate, opens.2), (d.book, legal, there), judged.history)
 
 pub reserve_chooses : (d d' : DeskState) (c : ℕ) (result : Result Receipt DeskFault)
     → Leads d.opening d.history d.book → IfOk result (λ r. ReservesFree d.book c r.event) → IfOk result (λ r. IsJudged d r d')

@@ -1,7 +1,7 @@
 -- Candidates that are tried in turn.
 use Rattle.std.proofs.Common.{◌≡◌, ◌<◌, ℕ, suc, List, length, drop, get_or, sym, ap, subst}
 use Rattle.std.proofs.Math.Seq.{drop-cons}
-use Rattle.channel_fsm.specs.declared.Rate.{Rate}
+use Rattle.timeslots.specs.declared.Rate.{Rate}
 use Rattle.cell_table.specs.Site.{SiteView}
 use Rattle.ho_candidates.specs.declared.listed.Candidate.{Candidate}
 use Rattle.ho_procedure.specs.Claims.{Entry, Claim}

@@ -2,7 +2,7 @@
 -- (TS 48.058 clause 4) or a free Handover Reference (TS 44.018 clause 10.5.2.15), which book it began with, that the desk
 -- doesn't know the view's last receipt, and for which events, and where a channel is taken, it may be refused memory.
 use Rattle.std.specs.Prelude.{◌≡◌, ℕ, IsTrue, List}
-use Rattle.channel_fsm.specs.declared.Rate.{Rate}
+use Rattle.timeslots.specs.declared.Rate.{Rate}
 use Rattle.radio_book.specs.declared.event.Event.{Event}
 use Rattle.radio_book.specs.declared.event.Event.TheVariants.{Open, Clear, Look, Take, Reserve, Activate, Command, Complete, Undo, Confirm, Refuse, Detect, Released, Owner, Require, Order, Left}
 use Rattle.radio_book.specs.declared.event.Reply.{Reply}
@@ -20,7 +20,7 @@ use Rattle.radio_desk.specs.declared.desk.DeskFault.TheVariants.{Foreign, NoMemo
 abbrev pub Entry : Type 0
 Entry = Event × Reply
 
--- No channel of a cell is free at this rate; this Take or Reserve chooses what is; the book began as this one; the desk
+-- No channel of a cell is free at this rate; this Take, Open or Reserve chooses what is; the book began as this one; the desk
 -- doesn't know the view's last receipt, which is of this place (counted from 0); memory may be refused where this event is
 -- asked; or it may where a channel of this cell is taken at this rate.
 pub data Claim : Type 0 where
@@ -34,8 +34,8 @@ pub data Claim : Type 0 where
 -- the book has what is chosen: the channel is free, or the number is in the cell of the taken channel
 abbrev pub IsThere : State → Event → Type 0
 IsThere b (Take c k x) = IsFreeIn b x.cell x
+IsThere b (Open c x) = IsFreeIn b x.cell x
 IsThere b (Reserve c n) = MayReserve b (taken_channel (record_of b c)) n
-IsThere b (Open c x) = ⊥
 IsThere b (Clear c) = ⊥
 IsThere b (Look c) = ⊥
 IsThere b (Activate c) = ⊥

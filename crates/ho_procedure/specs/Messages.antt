@@ -1,8 +1,8 @@
 -- The messages of the procedure, each in its canonical text.
 use Rattle.std.specs.Prelude.{ℕ, Bool, true, false, nat_lt, if◌then◌else◌, List, [], ◌∷◌, Option, Some, None, option_map, option_and_then, slice_get}
-use Rattle.channel_fsm.specs.declared.Rate.{Rate}
-use Rattle.channel_fsm.specs.declared.Rate.TheVariants.{Full, Half}
-use Rattle.channel_fsm.specs.Slots.{rate_of}
+use Rattle.timeslots.specs.declared.Rate.{Rate}
+use Rattle.timeslots.specs.declared.Rate.TheVariants.{Full, Half}
+use Rattle.timeslots.specs.Parts.{rate_of}
 use Rattle.channel_fsm.specs.declared.ChanId.{ChanId}
 use Rattle.cell_table.specs.declared.tables.CellIdentity.{CellIdentity}
 use Rattle.cell_table.specs.Site.{SiteView, CellView, TrxView, is_traffic, identity_at}

@@ -1,8 +1,8 @@
 -- Plans: what a controller asks of the book and what it sends, each step by the replies before it.
 use Rattle.std.specs.Prelude.{◌≡◌, ◌⊎◌, ◌↔◌, ℕ, ◌==◌, if◌then◌else◌, Bool, List, [], ◌∷◌, ◌++◌, AllPairs, Contains, Option, Some, None}
 use Rattle.channel_fsm.specs.declared.ChanId.{ChanId}
-use Rattle.channel_fsm.specs.declared.Rate.{Rate}
-use Rattle.channel_fsm.specs.Slots.{rate_of}
+use Rattle.timeslots.specs.declared.Rate.{Rate}
+use Rattle.timeslots.specs.Parts.{rate_of}
 use Rattle.cell_table.specs.Site.{SiteView}
 use Rattle.rr_elements.specs.MeasResults.{Results}
 use Rattle.ho_candidates.specs.declared.listed.Candidate.{Candidate}
@@ -24,13 +24,15 @@ pub data Room : Type 0 where
   ForReports : Room
 
 -- What is done with one input, step by step: room is made; an event is asked, and the reply decides the next step; some
--- channel of a cell that is free at a rate is taken, or none is; some free reference is reserved; a message is sent; a call
--- has these last reports from now on; the candidates that such reports make of the cells are gone through in their order.
+-- channel of a cell that is free at a rate is taken for a handover, or none is; a call begins on some such channel, or on
+-- none; some free reference is reserved; a message is sent; a call has these last reports from now on; the candidates that
+-- such reports make of the cells are gone through in their order.
 pub data Plan : Type 0 where
   Ends : Plan
   Readies : Room → Plan → Plan
   Asks : Event → (Reply → Plan) → Plan
   Takes : ℕ → Kind → ℕ → Rate → Plan → (ChanId → Reply → Plan) → Plan
+  Opens : ℕ → ℕ → Rate → Plan → (ChanId → Reply → Plan) → Plan
   Reserves : ℕ → (ℕ → Reply → Plan) → Plan
   Sends : Sent → Plan → Plan
   Notes : ℕ → List Results → Plan → Plan
@@ -59,6 +61,9 @@ Moves (Asks e next) s q = (r : Reply) × (s ≡ Asked e r) × (q ≡ next r)
 Moves (Takes c k cell rate none next) s q =
     ((s ≡ FoundNone cell rate) × (q ≡ none)) ⊎
     ((x : ChanId) × (r : Reply) × (x.cell ≡ cell) × (rate_of x.sub ≡ rate) × (s ≡ Chose (Take c k x) r) × (q ≡ next x r))
+Moves (Opens c cell rate none next) s q =
+    ((s ≡ FoundNone cell rate) × (q ≡ none)) ⊎
+    ((x : ChanId) × (r : Reply) × (x.cell ≡ cell) × (rate_of x.sub ≡ rate) × (s ≡ Chose (Open c x) r) × (q ≡ next x r))
 Moves (Reserves c next) s q = (n : ℕ) × (r : Reply) × (s ≡ Chose (Reserve c n) r) × (q ≡ next n r)
 Moves (Sends m next) s q = (s ≡ Posted m) × (q ≡ next)
 Moves (Notes c reports next) s q = (s ≡ Noted c reports) × (q ≡ next)
@@ -79,6 +84,7 @@ AsksDesk Ends = ⊥
 AsksDesk (Readies room next) = ⊥
 AsksDesk (Asks e next) = Unit {0}
 AsksDesk (Takes c k cell rate none next) = Unit {0}
+AsksDesk (Opens c cell rate none next) = Unit {0}
 AsksDesk (Reserves c next) = Unit {0}
 AsksDesk (Sends m next) = ⊥
 AsksDesk (Notes c reports next) = ⊥
@@ -91,6 +97,7 @@ TakesMemory Ends = ⊥
 TakesMemory (Readies room next) = Unit {0}
 TakesMemory (Asks e next) = Unit {0}
 TakesMemory (Takes c k cell rate none next) = Unit {0}
+TakesMemory (Opens c cell rate none next) = Unit {0}
 TakesMemory (Reserves c next) = Unit {0}
 TakesMemory (Sends m next) = ⊥
 TakesMemory (Notes c reports next) = ⊥
@@ -102,6 +109,7 @@ MayLack says Ends = ⊥
 MayLack says (Readies room next) = Unit {0}
 MayLack says (Asks e next) = says (MayBeRefused e)
 MayLack says (Takes c k cell rate none next) = says (TakeMayBeRefused cell rate)
+MayLack says (Opens c cell rate none next) = says (TakeMayBeRefused cell rate)
 MayLack says (Reserves c next) = (n : ℕ) → says (MayBeRefused (Reserve c n))
 MayLack says (Sends m next) = ⊥
 MayLack says (Notes c reports next) = ⊥
@@ -190,7 +198,7 @@ dropped_if accepted (Some c) call reports = if accepted then (if c == call then 
 abbrev pub reports_by : ℕ → Step → List Results → List Results
 reports_by call (Readied room) reports = reports
 reports_by call (Asked e r) reports = dropped_if (is_accepted r) (call_dropped e) call reports
-reports_by call (Chose e r) reports = reports
+reports_by call (Chose e r) reports = dropped_if (is_accepted r) (call_dropped e) call reports
 reports_by call (FoundNone cell rate) reports = reports
 reports_by call (Posted m) reports = reports
 reports_by call (Noted c now) reports = if c == call then now else reports

@@ -3,9 +3,9 @@
 -- notes, is made before its first event that changes the book; a row that sends nothing makes none.
 use Rattle.std.specs.Prelude.{ℕ, ◌==◌, ◌%◌, Bool, true, false, if◌then◌else◌, not, ◌&&◌, ◌||◌, nat_lt, List, [], ◌∷◌, length, Option, Some, None, is_some}
 use Rattle.std.specs.List.{position}
-use Rattle.channel_fsm.specs.declared.Rate.{Rate}
-use Rattle.channel_fsm.specs.declared.Rate.TheVariants.{Full, Half}
-use Rattle.channel_fsm.specs.Slots.{rate_of}
+use Rattle.timeslots.specs.declared.Rate.{Rate}
+use Rattle.timeslots.specs.declared.Rate.TheVariants.{Full, Half}
+use Rattle.timeslots.specs.Parts.{rate_of}
 use Rattle.channel_fsm.specs.declared.ChanId.{ChanId}
 use Rattle.channel_fsm.specs.declared.ChanState.{ChanState}
 use Rattle.channel_fsm.specs.declared.ChanState.TheVariants.{Free, Held, Pending, On, Off}
@@ -46,7 +46,7 @@ use Rattle.ho_procedure.specs.Messages.{is_nameable, activation, target_activati
 use Rattle.rr_elements.specs.RrCause.{normal_event, abnormal_release}
 use Rattle.bssmap_messages.specs.Causes.{radio_interface_message_failure, radio_interface_failure, call_control, reversion_to_old_channel, equipment_failure, no_radio_resource_available, ciphering_algorithm_not_supported, invalid_message_contents}
 use Rattle.ho_procedure.specs.Windows.{with_report}
-use Rattle.ho_procedure.specs.Plan.{Plan, Ends, Readies, ForMessages, ForUnread, ForReports, Asks, Takes, Reserves, Sends, Notes, Ranks}
+use Rattle.ho_procedure.specs.Plan.{Plan, Ends, Readies, ForMessages, ForUnread, ForReports, Asks, Takes, Opens, Reserves, Sends, Notes, Ranks}
 
 -- A plan goes on at one reply, and ends at any other.
 
@@ -148,6 +148,13 @@ opened_plan x = if is_nameable x then Sends (activation x) Ends else Ends
 
 unfoldable pub open_plan : ℕ → ChanId → Plan
 open_plan c x = Readies (ForMessages 1) (once_done (event.Open c x) (opened_plan x))
+
+-- An operator opens a call in a cell: on some channel that is free there at a rate (TS 48.058 clause 4.1).
+unfoldable pub seized_plan : ChanId → Reply → Plan
+seized_plan x = if_done (opened_plan x)
+
+unfoldable pub seize_plan : ℕ → ℕ → Rate → Plan
+seize_plan c cell rate = Readies (ForMessages 1) (Opens c cell rate Ends seized_plan)
 
 -- A handover to an own cell begins (TS 44.018 clause 3.4.4): a channel is taken, a reference reserved, CHANNEL ACTIVATION
 -- sent (TS 48.058 clause 4.1).
@@ -553,6 +560,7 @@ reject_plan c = looked c (λ r s. if awaits_order r.attempt then Asks (event.Und
 -- the row of each line of the operator
 abbrev pub line_plan : SiteView → Line → Plan
 line_plan site (line.Open c x) = open_plan c x
+line_plan site (line.Seize c cell rate) = seize_plan c cell rate
 line_plan site (line.Handover c cell) = handover_plan site c cell
 line_plan site (line.Undo c) = undo_plan c
 line_plan site (line.Clear c) = clear_plan c

@@ -1,5 +1,5 @@
 //! Buffers in which messages are written.
-ghost use Rattle.std.specs.Prelude.{◌≡◌, ◌+◌, ◌≤◌, ◌<◌, max, All, OnOk, vec_len};
+ghost use Rattle.std.specs.Prelude.{◌≡◌, ◌+◌, ◌≤◌, ◌<◌, max, All, OnOk, OnErr, vec_len};
 ghost use Rattle.ho_procedure.specs.Owed.{IsSpare};
 
 use std::alloc::{AllocError, Allocator, Global};
@@ -40,6 +40,7 @@ impl<A: Allocator + Copy> Buffers<A> {
     /// Makes so many buffers, if there are fewer.
     pub(crate) fn make(&mut self, count: usize) -> Result<(), AllocError>
         ensures ok { OnOk result (count ≤ self.new) }
+        ensures fewer { OnErr result (self.old < count) }
         ensures kept { self.old ≤ self.new }
         ensures most { self.new ≤ max self.old count }
     {
@@ -68,6 +69,7 @@ fn fill<A: Allocator + Copy>(
     requires spare { All IsSpare spare.old.items }
     ensures spare { All IsSpare spare.new.items }
     ensures ok { OnOk result (count ≤ vec_len spare.new) }
+    ensures fewer { OnErr result (vec_len spare.old < count) }
     ensures kept { vec_len spare.old ≤ vec_len spare.new }
     ensures most { vec_len spare.new ≤ max (vec_len spare.old) count }
 {

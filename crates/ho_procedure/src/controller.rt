@@ -18,10 +18,16 @@ use std::marker::Model;
 use std::sync::Arc;
 
 /// What a controller does, over any view of a desk. Contracts see its view, the last reports of each call, and its site.
-#[derive(Drop)]
 pub struct Controller<D: DeskView + Drop, A: Allocator = Global> {
     site: Arc<Site<A>, A>,
     work: Work<D, A>,
+}
+
+// By hand, so that it is proved here once, and not in each crate that lets a controller go.
+impl<D: DeskView + Drop, A: Allocator> Drop for Controller<D, A> {
+    fn drop(self) {
+        let Controller { site: _, work: _ } = self;
+    }
 }
 
 impl<D: DeskView + Drop, A: Allocator> Model for Controller<D, A> {

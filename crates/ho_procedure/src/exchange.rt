@@ -4,7 +4,7 @@ ghost use Rattle.ho_procedure.specs.Handling.{HoldsOctets};
 
 use attempt_journal::Timer;
 use bssmap_messages::BssmapFault;
-use channel_fsm::ChanId;
+use channel_fsm::{ChanId, Rate};
 use octet_elements::Octets;
 use rr_messages::RrFault;
 use rsl_messages::RslFault;
@@ -17,6 +17,9 @@ use thiserror::Error;
 pub enum Line {
     /// A call begins on this channel (TS 48.058 clause 4.1).
     Open { call: u16, chan: ChanId },
+    /// A call begins on some free channel of this cell at a rate (TS 48.058 clause 4.1). Nothing comes of it where none is
+    /// free, as of a cell that the site doesn't have.
+    Seize { call: u16, cell: u8, rate: Rate },
     /// A call is to move to this cell (TS 44.018 clause 3.4.4): an own one, or one of another controller, which have
     /// numbers from 64 on. Nothing comes of a number that the site doesn't have.
     Handover { call: u16, cell: u8 },
@@ -66,12 +69,26 @@ impl<A: Allocator + Copy> Inbound<A> {
 }
 
 /// What a controller sends: the octets are the canonical text of a message.
-#[derive(Debug, Drop)]
+#[derive(Debug)]
 pub enum Outbound<A: Allocator = Global> {
     /// A message on Abis to a TRX of a cell (TS 48.058 clause 8).
     Abis { cell: u8, trx: u8, bytes: Octets<A> },
     /// A message on A about a call (TS 48.008 clause 3.2.1).
     A { call: u16, bytes: Octets<A> },
+}
+
+// By hand, as that of a controller.
+impl<A: Allocator> Drop for Outbound<A> {
+    fn drop(self) {
+        match self {
+            Outbound::Abis {
+                cell: _,
+                trx: _,
+                bytes: _,
+            } => {}
+            Outbound::A { call: _, bytes: _ } => {}
+        }
+    }
 }
 
 /// Which text can't be read.

@@ -18,7 +18,7 @@ ghost use Rattle.ho_procedure.specs.Following.{Stopped, IsStopFor, IsStopOf, Can
 use crate::decoding::{Unreadable, decode_a, decode_abis};
 use crate::exchange::{Bad, Inbound, Line, Link};
 use crate::naming::chan_of;
-use crate::rows::calls::{clear, clear_command, open};
+use crate::rows::calls::{clear, clear_command, open, seize};
 use crate::rows::centre::{order, reject, request};
 use crate::rows::handovers::{expire, handover, undo};
 use crate::rows::mobiles::{complete, report, return_to};
@@ -75,6 +75,7 @@ fn follow_line<D: DeskView + Drop, A: Allocator + Copy>(
 {
     match line {
         Line::Open { call, chan } => open(work, call, chan),
+        Line::Seize { call, cell, rate } => seize(work, call, cell, rate),
         Line::Handover { call, cell } => handover(work, site, call, cell),
         Line::Undo { call } => undo(work, call),
         Line::Clear { call } => clear(work, call),

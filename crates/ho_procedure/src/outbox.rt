@@ -1,5 +1,5 @@
 //! The messages that a row sends.
-ghost use Rattle.std.specs.Prelude.{◌≡◌, ◌∷◌, ◌++◌, ◌+◌, ◌≤◌, ◌<◌, [], IsSome, OnOk, length, vec_len, vec_capacity};
+ghost use Rattle.std.specs.Prelude.{◌≡◌, ◌∷◌, ◌++◌, ◌+◌, ◌≤◌, ◌<◌, [], IsSome, IsOk, OnOk, length, vec_len, vec_capacity};
 ghost use Rattle.ho_procedure.specs.Sent.{all_sent};
 ghost use Rattle.ho_procedure.specs.Messages.{speech, activation, target_activation, release, to_mobile, channel_release, data_request, clear_request, clear_complete, handover_performed, handover_required, handover_request_ack, handover_detect, handover_complete, handover_failure};
 
@@ -90,9 +90,11 @@ impl<A: Allocator + Copy> Outbox<A> {
         }
     }
 
-    /// Makes room for this many messages more. The messages stay, also where memory is refused.
+    /// Makes room for this many messages more. Where there is room for them, and for one, no memory is asked for. The
+    /// messages stay, also where memory is refused.
     pub(crate) fn make_room(&mut self, more: usize) -> Result<(), AllocError>
         ensures ok { OnOk result (more ≤ self.new.room) }
+        ensures had_room { 1 ≤ self.old.room → more ≤ self.old.room → IsOk result }
         ensures items { self.new.items ≡ self.old.items }
         ensures unread_room { self.new.unread_room ≡ self.old.unread_room }
     {
@@ -101,12 +103,14 @@ impl<A: Allocator + Copy> Outbox<A> {
         self.buffers.make(more)
     }
 
-    /// Makes room for one message in which so many octets are passed on unread. The messages stay, also where memory is
-    /// refused.
+    /// Makes room for one message in which so many octets are passed on unread. Where there is room for it, no memory is
+    /// asked for. The messages stay, also where memory is refused.
     pub(crate) fn make_unread_room(&mut self, octets: usize) -> Result<(), AllocError>
         requires { octets ≤ 1015 }
         ensures ok { OnOk result (1 ≤ self.new.room) }
         ensures unread_room { OnOk result (octets ≤ self.new.unread_room) }
+        ensures had_room { 1 ≤ self.old.room → 1 ≤ octets → octets ≤ self.old.unread_room →
+            IsOk result }
         ensures items { self.new.items ≡ self.old.items }
     {
         self.make_room(1)?;

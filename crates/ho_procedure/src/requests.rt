@@ -19,7 +19,7 @@ const FULL_RATE_PREFERRED: u8 = 0x0A;
 
 const HALF_RATE_PREFERRED: u8 = 0x0B;
 
-const FULL_RATE_PREFERRED_CHANGES_ALLOWED: u8 = 0x0F;
+const FULL_OR_HALF_RATE: u8 = 0x0F;
 
 /// The rates that a channel type permits.
 #[derive(Clone, Copy)]
@@ -46,7 +46,7 @@ fn rates_by(octet: u8) -> PermittedRates
 {
     let (preferred, other) = match octet {
         HALF_RATE_ALONE => (Rate::Half, None),
-        FULL_RATE_PREFERRED | FULL_RATE_PREFERRED_CHANGES_ALLOWED => (Rate::Full, Some(Rate::Half)),
+        FULL_RATE_PREFERRED | FULL_OR_HALF_RATE => (Rate::Full, Some(Rate::Half)),
         HALF_RATE_PREFERRED => (Rate::Half, Some(Rate::Full)),
         _ => (Rate::Full, None),
     };

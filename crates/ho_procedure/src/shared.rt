@@ -1,7 +1,7 @@
 //! A desk that threads share.
 ghost use Rattle.std.specs.Prelude.{◌≡◌, ◌∷◌, ◌++◌, [], ℕ, length, Err, IfOk, IfSome, MatchOption, OnErr};
 ghost use Rattle.channel_fsm.specs.declared.ChanId.{ChanId};
-ghost use Rattle.channel_fsm.specs.Slots.{rate_of};
+ghost use Rattle.timeslots.specs.Parts.{rate_of};
 ghost use Rattle.radio_desk.specs.Receipts.{IsRising, Joined, receipted};
 ghost use Rattle.ho_procedure.specs.Seats.{IsLastPlace};
 
@@ -20,12 +20,23 @@ use std::sync::{Arc, Mutex, Wait};
 /// Each call takes the lock, and may wait for another thread to give it back. Between two calls others may have asked the
 /// desk. So it says nothing of the desk's book: any call may find no channel free. Once the seat has a receipt, it may meet
 /// a desk that doesn't know the last one.
-#[derive(Drop)]
 pub struct Shared<R: Drop, A: Allocator = Global> {
     rt: R,
     lock: Arc<Mutex<Desk<A>>, A>,
     seat: Seat,
     receipts: Vec<Receipt, A>,
+}
+
+// By hand, as that of a controller.
+impl<R: Drop, A: Allocator> Drop for Shared<R, A> {
+    fn drop(self) {
+        let Shared {
+            rt: _,
+            lock: _,
+            seat: _,
+            receipts: _,
+        } = self;
+    }
 }
 
 impl<R: Drop, A: Allocator> Model for Shared<R, A> {
@@ -128,6 +139,27 @@ impl<R: Wait + Drop, A: Allocator + Copy> DeskView for Shared<R, A> {
             self.receipts.push_reserved(receipt);
         }
         Ok(found)
+    }
+
+    #[tactic(auto, using(crate::proofs::Seats::receipted_more))]
+    fn judge_open(&mut self, call: u16, cell: u8, rate: Rate) -> Result<Option<Receipt>, DeskFault>
+        ensures ok { IfOk result (λ answer. MatchOption answer (self.new ≡ self.old)
+            (λ r. ((x : ChanId) × (x.cell ≡ cell) × (rate_of x.sub ≡ rate) × (r.event ≡ Event.Open call x)) ×
+            (receipted self.new ≡ receipted self.old ++ (r.event, r.reply) ∷ []))) }
+        ensures receipt { IfOk result (λ answer. IfSome answer (λ r. Joined self.old r self.new)) }
+        ensures err { OnErr result (self.new ≡ self.old) }
+        ensures place { (place : ℕ) → result ≡ Err (DeskFault.Foreign place) →
+            IsLastPlace self.old place }
+    {
+        self.receipts.reserve(1)?;
+        let opened = self
+            .lock
+            .lock(&self.rt)
+            .judge_open(&mut self.seat, call, cell, rate)?;
+        if let Some(receipt) = opened {
+            self.receipts.push_reserved(receipt);
+        }
+        Ok(opened)
     }
 
     #[tactic(auto, using(crate::proofs::Seats::receipted_more))]

@@ -1,9 +1,9 @@
 //! A desk of one's own.
 ghost use Rattle.std.specs.Prelude.{◌≡◌, ◌⊎◌, ◌∷◌, ◌++◌, [], ℕ, List, Ok, Err, None, IfOk, IfErr, OnErr, IfSome, MatchOption};
 ghost use Rattle.channel_fsm.specs.declared.ChanId.{ChanId};
-ghost use Rattle.channel_fsm.specs.Slots.{rate_of};
+ghost use Rattle.timeslots.specs.Parts.{rate_of};
 ghost use Rattle.radio_book.specs.declared.event.Event.{Event};
-ghost use Rattle.radio_book.specs.Choice.{TakesFree};
+ghost use Rattle.radio_book.specs.Choice.{TakesFree, OpensFree};
 ghost use Rattle.radio_book.specs.Choice as free;
 ghost use Rattle.radio_book.specs.Table.{row, NeedsRoom};
 ghost use Rattle.radio_desk.specs.Desk.{IsJudged, LacksRoom};
@@ -23,9 +23,15 @@ use std::marker::Model;
 /// desk never finds it foreign: it asks each time from a new seat, since a desk that nobody else asks has no receipt to
 /// compare. Nor does it say that memory may be refused for an `Undo` or a `Released` that is accepted, or to take a channel
 /// where none is free.
-#[derive(Drop)]
 pub struct Solo<A: Allocator = Global> {
     desk: Desk<A>,
+}
+
+// By hand, as that of a controller.
+impl<A: Allocator> Drop for Solo<A> {
+    fn drop(self) {
+        let Solo { desk: _ } = self;
+    }
 }
 
 impl<A: Allocator> Model for Solo<A> {
@@ -113,6 +119,31 @@ impl<A: Allocator + Copy> DeskView for Solo<A> {
         let _entries = self.desk.len();
         self.desk
             .judge_take(&mut Seat::new(), call, kind, cell, rate)
+    }
+
+    fn judge_open(&mut self, call: u16, cell: u8, rate: Rate) -> Result<Option<Receipt>, DeskFault>
+        ensures ok { IfOk result (λ answer. MatchOption answer
+            ((self.new.history ≡ self.old.history) ×
+            IsTrueAfter self.old.opening self.old.history (NoneFree cell rate))
+            (λ r. ((x : ChanId) × (x.cell ≡ cell) × (rate_of x.sub ≡ rate) × (r.event ≡ Event.Open call x)) ×
+            IsTrueAfter self.old.opening self.old.history (Chosen r.event) ×
+            (self.new.history ≡ self.old.history ++ (r.event, r.reply) ∷ []))) }
+        ensures receipt { IfOk result (λ answer. IfSome answer
+            (λ r. IsJudged self.old r self.new)) }
+        ensures err { OnErr result (self.new.history ≡ self.old.history) }
+        ensures foreign { IfErr result (λ f. (place : ℕ) → IsForeign f place →
+            IsTrueAfter self.old.opening self.old.history (UnknownReceipt place)) }
+        ensures memory { IfErr result (λ f. IsNoMemory f →
+            IsTrueAfter self.old.opening self.old.history (TakeMayBeRefused cell rate)) }
+        ensures looked { free.NoneFreeAt self.old.book cell rate → result ≡ Ok None }
+        ensures refused { result ≡ Err DeskFault.NoMemory → LacksRoom self.old ⊎
+            ((e : Event) × OpensFree self.old.book call cell rate e ×
+            NeedsRoom self.old.book (row self.old.book e)) }
+        ensures said { (es : List Entry) → (claim : Claim) →
+            IsTrueAfter self.new.opening es claim → IsTrueAfter self.old.opening es claim }
+    {
+        let _entries = self.desk.len();
+        self.desk.judge_open(&mut Seat::new(), call, cell, rate)
     }
 
     fn judge_reserve(&mut self, call: u16) -> Result<Receipt, DeskFault>

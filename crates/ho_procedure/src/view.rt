@@ -1,7 +1,7 @@
 //! How a controller asks the book.
 ghost use Rattle.std.specs.Prelude.{◌≡◌, ◌∷◌, ◌++◌, [], ℕ, List, IfOk, IfErr, OnErr, IfSome, MatchOption};
 ghost use Rattle.channel_fsm.specs.declared.ChanId.{ChanId};
-ghost use Rattle.channel_fsm.specs.Slots.{rate_of};
+ghost use Rattle.timeslots.specs.Parts.{rate_of};
 ghost use Rattle.radio_desk.specs.declared.seat.Receipt.{Receipt};
 ghost use Rattle.ho_procedure.specs.Claims.{Entry, Claim, NoneFree, Chosen, UnknownReceipt, MayBeRefused, TakeMayBeRefused, IsForeign, IsNoMemory};
 
@@ -17,7 +17,8 @@ use radio_desk::seat::Receipt;
 /// it says after a call it would have said before: so it says of one book that it began with. `Foreign` it answers only
 /// where it says that the desk doesn't know the view's last receipt, of the place that it answers; a view that never says
 /// so is never foreign. `NoMemory` it answers only where it says that memory may be refused: for the event; for a Reserve of
-/// the call, whatever the number; or where a channel of the cell is taken at the rate.
+/// the call, whatever the number; or where a channel of the cell is taken at the rate, for a handover or for a call that
+/// begins.
 pub trait DeskView {
     ghost log: { Self → List Entry };
 
@@ -55,6 +56,24 @@ pub trait DeskView {
         ensures ok { IfOk result (λ answer. MatchOption answer
             ((log self.new ≡ log self.old) × says self.old (log self.old) (NoneFree cell rate))
             (λ r. ((x : ChanId) × (x.cell ≡ cell) × (rate_of x.sub ≡ rate) × (r.event ≡ Event.Take call kind x)) ×
+            says self.old (log self.old) (Chosen r.event) ×
+            (log self.new ≡ log self.old ++ (r.event, r.reply) ∷ []))) }
+        ensures receipt { IfOk result (λ answer. IfSome answer
+            (λ r. judged self.old r self.new)) }
+        ensures err { OnErr result (log self.new ≡ log self.old) }
+        ensures foreign { IfErr result (λ f. (place : ℕ) → IsForeign f place →
+            says self.old (log self.old) (UnknownReceipt place)) }
+        ensures memory { IfErr result (λ f. IsNoMemory f →
+            says self.old (log self.old) (TakeMayBeRefused cell rate)) }
+        ensures said { (es : List Entry) → (claim : Claim) →
+            says self.new es claim → says self.old es claim };
+
+    /// Asks an Open on some channel of a cell that is free at a rate (`Desk::judge_open`). `None`, and faults, as of
+    /// `judge_take`.
+    fn judge_open(&mut self, call: u16, cell: u8, rate: Rate) -> Result<Option<Receipt>, DeskFault>
+        ensures ok { IfOk result (λ answer. MatchOption answer
+            ((log self.new ≡ log self.old) × says self.old (log self.old) (NoneFree cell rate))
+            (λ r. ((x : ChanId) × (x.cell ≡ cell) × (rate_of x.sub ≡ rate) × (r.event ≡ Event.Open call x)) ×
             says self.old (log self.old) (Chosen r.event) ×
             (log self.new ≡ log self.old ++ (r.event, r.reply) ∷ []))) }
         ensures receipt { IfOk result (λ answer. IfSome answer

@@ -1,5 +1,5 @@
 //! The reports that are kept of each call.
-ghost use Rattle.std.specs.Prelude.{◌≡◌, ◌≤◌, ◌<◌, ℕ, true, not, filter, None, IsTrue, OnOk, IfSome, IfNone, vec_len, vec_capacity};
+ghost use Rattle.std.specs.Prelude.{◌≡◌, ◌≤◌, ◌<◌, ℕ, true, not, filter, None, IsTrue, IsOk, OnOk, IfSome, IfNone, vec_len, vec_capacity};
 ghost use Rattle.cell_table.specs.Limits.{most_reports};
 ghost use Rattle.measurements.specs.Reports.{no_reports};
 ghost use Rattle.std.specs.List.{position};
@@ -56,9 +56,11 @@ impl<A: Allocator + Copy> Windows<A> {
         }
     }
 
-    /// Makes room for the reports of one more call. The reports stay, also where memory is refused.
+    /// Makes room for the reports of one more call. Where there is room for them, no memory is asked for. The reports
+    /// stay, also where memory is refused.
     pub(crate) fn make_room(&mut self) -> Result<(), AllocError>
         ensures ready { OnOk result (IsTrue self.new.is_ready) }
+        ensures had_room { self.old.is_ready ≡ true → IsOk result }
         ensures reports { SameReports self.old self.new }
         ensures width { self.new.width ≡ self.old.width }
     {

@@ -1,11 +1,11 @@
 //! The steps of a row, each with the plan that it leads from and to.
-ghost use Rattle.std.specs.Prelude.{◌≡◌, ◌≤◌, ℕ, List, true, IsTrue, IfOk, IfErr, OnOk, OnErr, Err, MatchOption};
+ghost use Rattle.std.specs.Prelude.{◌≡◌, ◌≤◌, ℕ, List, true, IsTrue, IfOk, IfErr, IsOk, OnOk, OnErr, Err, MatchOption};
 ghost use Rattle.channel_fsm.specs.declared.ChanId.{ChanId};
 ghost use Rattle.ho_candidates.specs.declared.listed.Candidate.{Candidate};
 ghost use Rattle.radio_book.specs.declared.event.Reply.{Reply};
 ghost use Rattle.radio_book.specs.Kinds.{is_accepted};
 ghost use Rattle.ho_procedure.specs.Windows.{with_report};
-ghost use Rattle.ho_procedure.specs.Plan.{Plan, Readies, ForMessages, ForUnread, ForReports, AreCandidates, Asks, Takes, Reserves, Notes, Ranks, call_dropped, dropped_if};
+ghost use Rattle.ho_procedure.specs.Plan.{Plan, Readies, ForMessages, ForUnread, ForReports, AreCandidates, Asks, Takes, Opens, Reserves, Notes, Ranks, call_dropped, dropped_if};
 ghost use Rattle.ho_candidates.specs.Candidates.{SomeCandidate};
 ghost use Rattle.ho_procedure.specs.Going.{Goes, Passes, last_reports, stops_at};
 
@@ -112,6 +112,8 @@ impl<D: DeskView + Drop, A: Allocator + Copy> Work<D, A> {
         ensures unread_room { OnOk result (octets ≤ self.new.owed.unread_room) }
         ensures err { IfErr result (λ f. (next : Plan) → Goes D.log D.says self.old
             (Readies (ForUnread octets) next) self.new (stops_at f)) }
+        ensures had_room { 1 ≤ self.old.owed.room → 1 ≤ octets →
+            octets ≤ self.old.owed.unread_room → IsOk result }
         ensures no_memory { OnErr result (result ≡ Err DeskFault.NoMemory) }
     {
         Ok(self.owed.make_unread_room(octets)?)
@@ -125,6 +127,7 @@ impl<D: DeskView + Drop, A: Allocator + Copy> Work<D, A> {
         ensures ready { OnOk result (IsTrue self.new.windows.is_ready) }
         ensures err { IfErr result (λ f. (next : Plan) → Goes D.log D.says self.old
             (Readies ForReports next) self.new (stops_at f)) }
+        ensures had_room { self.old.windows.is_ready ≡ true → IsOk result }
         ensures no_memory { OnErr result (result ≡ Err DeskFault.NoMemory) }
         ensures reports { (call : ℕ) →
             last_reports self.new.windows call ≡ last_reports self.old.windows call }
@@ -180,6 +183,35 @@ impl<D: DeskView + Drop, A: Allocator + Copy> Work<D, A> {
         let Event::Take(_, _, chan) = receipt.event else {
             unreachable!()
         };
+        Ok(Some((chan, receipt.reply)))
+    }
+
+    /// Opens a call on some channel of a cell that is free at a rate, or finds that none is free.
+    #[tactic(auto, using(crate::proofs::Going::began, crate::proofs::Going::began_on_none, crate::proofs::Going::unopened))]
+    pub(crate) fn seize(
+        &mut self,
+        call: u16,
+        cell: u8,
+        rate: Rate,
+    ) -> Result<Option<(ChanId, Reply)>, DeskFault>
+        ensures ok { IfOk result (λ answer. MatchOption answer
+            ((none : Plan) → (next : ChanId → Reply → Plan) →
+            Passes D.log D.says self.old (Opens call cell rate none next) self.new none)
+            (λ opened. (none : Plan) → (next : ChanId → Reply → Plan) →
+            Passes D.log D.says self.old (Opens call cell rate none next) self.new
+            (next opened.0 opened.1))) }
+        ensures err { IfErr result (λ f. (none : Plan) → (next : ChanId → Reply → Plan) →
+            Goes D.log D.says self.old (Opens call cell rate none next)
+            self.new (stops_at f)) }
+        ensures owed { self.new.owed ≡ self.old.owed }
+    {
+        let Some(receipt) = self.view.judge_open(call, cell, rate)? else {
+            return Ok(None);
+        };
+        let Event::Open(_, chan) = receipt.event else {
+            unreachable!()
+        };
+        drop_reports(&mut self.windows, receipt.event, receipt.reply);
         Ok(Some((chan, receipt.reply)))
     }
 

@@ -1,5 +1,5 @@
 //! The simulated switching centre.
-ghost use Rattle.std.specs.Prelude.{◌≡◌, ◌≢◌, ◌↔◌, ◌<◌, ◌≤◌, List, ℕ, length, [], ◌∷◌, map, slice_get, Some, IsTrue, IsSome, IfOk, OnErr};
+ghost use Rattle.std.specs.Prelude.{◌≡◌, ◌≢◌, ◌<◌, ◌≤◌, List, ℕ, length, [], ◌∷◌, map, slice_get, Some, IsSome, IfOk, OnErr};
 ghost use Rattle.bssmap_messages.specs.Messages.{KeepsList};
 ghost use Rattle.bssmap_messages.specs.Texts.{IsTextOf};
 ghost use Rattle.bssmap_messages.specs.declared.message.Bssmap.{Bssmap};
@@ -16,7 +16,7 @@ use crate::route::{Route, route_of};
 use bssmap_messages::causes::{
     CALL_CONTROL, HANDOVER_SUCCESSFUL, NO_RADIO_RESOURCE_AVAILABLE, REVERSION_TO_OLD_CHANNEL,
 };
-use bssmap_messages::{Bssmap, BssmapFault, CellId, Octets, decode};
+use bssmap_messages::{Bssmap, CellId, Octets, decode};
 use cell_table::Site;
 use std::alloc::{AllocError, Allocator, Global};
 use std::marker::Model;
@@ -305,26 +305,11 @@ fn message_in<A: Allocator + Copy>(alloc: A, octets: &[u8]) -> Result<Option<Bss
     match decode(alloc, octets) {
         Ok(message) => Ok(Some(message)),
         Err(fault) => {
-            if is_memory(fault) {
+            if fault.is_memory() {
                 Err(AllocError)
             } else {
                 Ok(None)
             }
         }
-    }
-}
-
-/// Memory was refused.
-fn is_memory(fault: BssmapFault) -> bool
-    ensures { IsTrue result ↔ (fault ≡ BssmapFault.NoMemory) }
-{
-    match fault {
-        BssmapFault::NoMemory => true,
-        BssmapFault::NotBssmap
-        | BssmapFault::Length
-        | BssmapFault::UnknownType(_)
-        | BssmapFault::Missing(_)
-        | BssmapFault::BadElement(_)
-        | BssmapFault::Torn(_) => false,
     }
 }

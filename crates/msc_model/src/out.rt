@@ -35,7 +35,7 @@ pub fn send<A: Allocator + Copy>(
     outs.push(CentreOut {
         controller: to.controller,
         call: to.call,
-        bytes: Octets::new(alloc, octets.as_slice())?,
+        bytes: Octets::from_vec(octets),
     })?;
     Ok(())
 }

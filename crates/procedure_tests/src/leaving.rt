@@ -77,6 +77,16 @@ impl<A: Allocator + Copy> DeskView for Leaving<A> {
         self.solo.judge_take(call, kind, cell, rate)
     }
 
+    fn judge_open(
+        &mut self,
+        call: u16,
+        cell: u8,
+        rate: Rate,
+    ) -> Result<Option<Receipt>, DeskFault> {
+        self.sits()?;
+        self.solo.judge_open(call, cell, rate)
+    }
+
     fn judge_reserve(&mut self, call: u16) -> Result<Receipt, DeskFault> {
         self.sits()?;
         self.solo.judge_reserve(call)

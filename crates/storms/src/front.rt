@@ -1,6 +1,9 @@
 //! The front of a storm: the one thread that gives inputs to the office.
-ghost use Rattle.std.specs.Prelude.{◌≡◌, ◌≤◌, All, IfOk, OnOk, IsTrue, [], vec_len};
-ghost use Rattle.storms.specs.Outcomes.{AreOf, AreFigures, DidAll};
+ghost use Rattle.std.specs.Prelude.{◌≡◌, ◌≤◌, ℕ, All, IfOk, OnOk, IsTrue, [], vec_len};
+ghost use Rattle.channel_fsm.specs.declared.ChanId.{ChanId};
+ghost use Rattle.storms.specs.declared.watch.Phase.TheVariants.{Opening};
+ghost use Rattle.storms.specs.Outcomes.{AreOf, DidAll};
+ghost use Rattle.storms.specs.Openings.{IsOpening, IsGivenToOpen, AreGivenToOpen, AreLeftBy, Keeps};
 
 use crate::links::TrayLinks;
 use crate::outcome::{Figures, StormFault};
@@ -80,8 +83,12 @@ impl<R: Threads + Wait + Drop, A: Allocator + Copy> Front<R, A> {
     }
 
     /// Gives an input to its worker, and waits for room in that worker's inbox.
+    #[tactic(auto, using(crate::proofs::Openings::keeps_given, crate::proofs::Openings::given_now, crate::proofs::Openings::keeps_same))]
     fn give(&mut self, input: Inbound<A>) -> Result<(), StormFault>
         ensures opening { self.new.office.opening ≡ self.old.office.opening }
+        ensures kept { Keeps self.old.office self.new.office }
+        ensures given { OnOk result ((call : ℕ) (chan : ChanId) → IsOpening call chan input →
+            IsGivenToOpen self.new.office call chan) }
     {
         self.office.give(input)?;
         self.given = self.given.saturating_add(1);
@@ -89,8 +96,10 @@ impl<R: Threads + Wait + Drop, A: Allocator + Copy> Front<R, A> {
     }
 
     /// Gives inputs, in their order.
+    #[tactic(auto, using(crate::proofs::Openings::keeps_still, crate::proofs::Openings::keeps_on))]
     fn give_all(&mut self, inputs: Vec<Inbound<A>, A>) -> Result<(), StormFault>
         ensures opening { self.new.office.opening ≡ self.old.office.opening }
+        ensures kept { Keeps self.old.office self.new.office }
     {
         for input in inputs {
             self.give(input)?;
@@ -99,8 +108,10 @@ impl<R: Threads + Wait + Drop, A: Allocator + Copy> Front<R, A> {
     }
 
     /// Hands a message to the simulators, and gives what they answer.
+    #[tactic(auto, using(crate::proofs::Openings::keeps_still, crate::proofs::Openings::keeps_on))]
     fn answer(&mut self, message: &Outbound<A>) -> Result<(), StormFault>
         ensures opening { self.new.office.opening ≡ self.old.office.opening }
+        ensures kept { Keeps self.old.office self.new.office }
     {
         let answers = self.simulated.answers(message)?;
         self.give_all(answers)
@@ -108,8 +119,10 @@ impl<R: Threads + Wait + Drop, A: Allocator + Copy> Front<R, A> {
 
     /// Answers what lies on the tray, and what comes of that, until all is quiet: the workers are done with all that they
     /// were given, and nothing lies there.
+    #[tactic(auto, using(crate::proofs::Openings::keeps_still, crate::proofs::Openings::keeps_on))]
     fn settle<V: Watch>(&mut self, rt: &R, watch: &mut V) -> Result<(), StormFault>
         ensures opening { self.new.office.opening ≡ self.old.office.opening }
+        ensures kept { Keeps self.old.office self.new.office }
     {
         for _ in rt.forever() {
             let Some(message) = self.tray.take_up(rt, self.given) else {
@@ -122,8 +135,12 @@ impl<R: Threads + Wait + Drop, A: Allocator + Copy> Front<R, A> {
     }
 
     /// Asks a call for what it does in a phase.
+    #[tactic(auto, using(crate::proofs::Openings::keeps_still, crate::proofs::Openings::keeps_on))]
     fn ask(&mut self, phase: Phase, trip: &Trip) -> Result<(), StormFault>
         ensures opening { self.new.office.opening ≡ self.old.office.opening }
+        ensures kept { Keeps self.old.office self.new.office }
+        ensures given { OnOk result (phase ≡ Opening →
+            IsGivenToOpen self.new.office trip.now.call trip.now.from) }
     {
         let call = trip.call;
         match phase {
@@ -146,6 +163,7 @@ impl<R: Threads + Wait + Drop, A: Allocator + Copy> Front<R, A> {
     }
 
     /// Asks all calls for what they do in a phase, and waits until all is quiet.
+    #[tactic(auto, using(crate::proofs::Openings::keeps_still, crate::proofs::Openings::keeps_on, crate::proofs::Openings::keeps_all))]
     fn pass<V: Watch>(
         &mut self,
         rt: &R,
@@ -154,6 +172,8 @@ impl<R: Threads + Wait + Drop, A: Allocator + Copy> Front<R, A> {
         watch: &mut V,
     ) -> Result<(), StormFault>
         ensures opening { self.new.office.opening ≡ self.old.office.opening }
+        ensures kept { Keeps self.old.office self.new.office }
+        ensures given { OnOk result (phase ≡ Opening → AreGivenToOpen self.new.office trips.now) }
     {
         for trip in trips {
             self.ask(phase, trip)?;
@@ -165,6 +185,7 @@ impl<R: Threads + Wait + Drop, A: Allocator + Copy> Front<R, A> {
 
     /// Runs a storm: the calls are opened, try to move, and are hung up; each phase begins once all is quiet after the one
     /// before.
+    #[tactic(auto, using(crate::proofs::Openings::keeps_on, crate::proofs::Openings::keeps_all))]
     pub(crate) fn run<V: Watch>(
         &mut self,
         rt: &R,
@@ -172,6 +193,7 @@ impl<R: Threads + Wait + Drop, A: Allocator + Copy> Front<R, A> {
         watch: &mut V,
     ) -> Result<(), StormFault>
         ensures opening { self.new.office.opening ≡ self.old.office.opening }
+        ensures given { OnOk result (AreGivenToOpen self.new.office trips.now) }
     {
         self.pass(rt, Phase::Opening, trips, watch)?;
         self.pass(rt, Phase::Moving, trips, watch)?;
@@ -181,7 +203,7 @@ impl<R: Threads + Wait + Drop, A: Allocator + Copy> Front<R, A> {
     /// Ends the workers, waits for their threads, and says what the desk tells. Where a worker had no memory for a part of
     /// its work, that is want of memory, too.
     pub(crate) fn close(self) -> Result<Figures, StormFault>
-        ensures figures { IfOk result (λ figures. AreFigures self.office.opening figures) }
+        ensures figures { IfOk result (λ figures. AreLeftBy self.office figures) }
     {
         let Front {
             office,

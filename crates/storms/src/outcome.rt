@@ -4,12 +4,12 @@ ghost use Rattle.storms.specs.Outcomes.{figures_text};
 ghost use Rattle.storms.specs.Endings.{EndsAs, EndsBefore, EndsUnreadable};
 
 use crate::trip::{Shortage, TripFault};
-use call_worker::{CloseFault, GiveFault, StartFault};
+use call_worker::{CloseFault, GiveFault, StartFault, Unclosed};
 use cell_table::SiteFault;
 use radio_desk::audit::Audit;
 use radio_desk::tally::Tally;
 use rsl_messages::RslFault;
-use std::alloc::AllocError;
+use std::alloc::{AllocError, Allocator};
 use std::fmt;
 use thiserror::Error;
 
@@ -113,6 +113,16 @@ impl From<CloseFault> for StormFault {
             | CloseFault::Opening => StormFault::Office(OfficeFault::Closed(fault)),
             CloseFault::NoMemory => StormFault::NoMemory,
         }
+    }
+}
+
+impl<L: Drop, A: Allocator> From<Unclosed<L, A>> for StormFault {
+    ghost use Rattle.storms.specs.Endings.{of_close};
+
+    ghost from_gives = { λ unclosed storm. storm ≡ of_close unclosed.fault };
+
+    fn from(unclosed: Unclosed<L, A>) -> StormFault {
+        StormFault::from(unclosed.fault)
     }
 }
 

@@ -28,9 +28,9 @@ use std::thread::Threads;
 /// small.
 ///
 /// Where nothing is run the answer says why: the text describes no site, or what the site lacks. Else the figures are those of
-/// a desk that was asked about the empty book of the site, and whose history leads from there to its book; or the office
-/// failed. `scratch` serves while the site is read, `alloc` for all else. The error: memory was refused, be it to a worker. A
-/// text of white space and comments alone takes none.
+/// a desk that opened with the empty book of the site, was asked to open each of the calls, and whose history leads from there
+/// to its book; or the office failed. `scratch` serves while the site is read, `alloc` for all else. The error: memory was
+/// refused, be it to a worker. A text of white space and comments alone takes none.
 pub fn run_storm<
     R: Threads + Wait + Clone + Drop + Send + 'static,
     A: Allocator + Copy + Send + Sync + 'static,
@@ -87,6 +87,7 @@ fn laid_out<A: Allocator + Copy>(
 }
 
 /// Runs these trips.
+#[tactic(auto, using(crate::proofs::Openings::figures_of_trips))]
 fn travel<
     R: Threads + Wait + Clone + Drop + Send + 'static,
     A: Allocator + Copy + Send + Sync + 'static,
@@ -100,7 +101,7 @@ fn travel<
     watch: &mut V,
 ) -> Result<Figures, StormFault>
     requires workers { (1 ≤ workers) × (workers ≤ 16) }
-    ensures figures { IfOk result (λ figures. AreFigures (empty_book site) figures) }
+    ensures figures { IfOk result (λ figures. AreFigures (empty_book site) trips.now figures) }
 {
     let (desk, simulated) = laid_out(alloc, site)?;
     let mut front = Front::start(rt, alloc, desk, simulated, workers)?;

@@ -1,11 +1,14 @@
 mod answers;
 mod beside;
+mod filled;
 mod gathering;
 mod largest;
 mod memory;
 mod moved;
 mod offices;
+mod printed;
 mod shaken;
 mod steady;
 mod together;
+mod told;
 mod tray;

@@ -2,14 +2,14 @@
 ghost use Rattle.std.specs.Prelude.{◌≡◌, ◌≤◌, ◌<◌, ◌+◌, ℕ, Ok, IfOk, OnOk, IfErr, Option, Some, None};
 ghost use Rattle.ho_procedure.specs.Plan.{Plan, Ends, At};
 ghost use Rattle.ho_procedure.specs.Going.{Goes, Passes, then, stops_at};
-ghost use Rattle.ho_procedure.specs.Procedure.{opened_plan, open_plan, told_cause, told_first, told_count, release_serving, clear_all, clear_rest, clear_plan, left_plan, clear_command_rest, clear_command_plan, release_cause};
+ghost use Rattle.ho_procedure.specs.Procedure.{opened_plan, open_plan, seized_plan, seize_plan, told_cause, told_first, told_count, release_serving, clear_all, clear_rest, clear_plan, left_plan, clear_command_rest, clear_command_plan, release_cause};
 
 use super::parts::{ask_done, ask_record, look, release_target};
 use crate::records::{awaits_leaving, is_held, is_nameable, is_on, is_own, names_releases};
 use crate::view::DeskView;
 use crate::work::{Flow, Shown, Work};
 use bssmap_messages::causes::CALL_CONTROL;
-use channel_fsm::{ChanId, ChanState};
+use channel_fsm::{ChanId, ChanState, Rate};
 use radio_book::event::{Event, Refusal, Reply, Why};
 use radio_desk::desk::DeskFault;
 use rr_elements::{ABNORMAL_RELEASE, NORMAL_EVENT};
@@ -43,6 +43,43 @@ pub(crate) fn open<D: DeskView + Drop, A: Allocator + Copy>(
         return Ok(());
     };
     activate(work, chan);
+    Ok(())
+}
+
+/// What follows the choice of a channel for a call that begins: it is activated.
+#[tactic(auto, using(crate::proofs::Asking::row_steps), unfolding(crate::specs::Procedure::seized_plan))]
+fn go_on_seized<D: DeskView + Drop, A: Allocator + Copy>(
+    work: &mut Work<D, A>,
+    chan: ChanId,
+    reply: Reply,
+)
+    requires { 1 ≤ work.old.owed.room }
+    ensures row { Goes D.log D.says work.old (seized_plan chan reply) work.new (At Ends) }
+{
+    match reply {
+        Reply::Done => activate(work, chan),
+        Reply::Record(..) | Reply::Owned(_) | Reply::Refused(_) => {}
+    }
+}
+
+/// A call begins on some free channel of a cell, which is activated.
+#[tactic(auto, using(crate::proofs::Asking::row_steps), unfolding(crate::specs::Procedure::seize_plan))]
+pub(crate) fn seize<D: DeskView + Drop, A: Allocator + Copy>(
+    work: &mut Work<D, A>,
+    call: u16,
+    cell: u8,
+    rate: Rate,
+) -> Result<(), DeskFault>
+    ensures row { OnOk result (Goes D.log D.says work.old
+        (seize_plan call cell rate) work.new (At Ends)) }
+    ensures stops { IfErr result (λ f. Goes D.log D.says work.old
+        (seize_plan call cell rate) work.new (stops_at f)) }
+{
+    work.make_room(1)?;
+    let Some((chan, reply)) = work.seize(call, cell, rate)? else {
+        return Ok(());
+    };
+    go_on_seized(work, chan, reply);
     Ok(())
 }
 

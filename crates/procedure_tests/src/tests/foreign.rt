@@ -40,6 +40,15 @@ impl DeskView for Elsewhere {
         Err(DeskFault::Foreign(7))
     }
 
+    fn judge_open(
+        &mut self,
+        _call: u16,
+        _cell: u8,
+        _rate: Rate,
+    ) -> Result<Option<Receipt>, DeskFault> {
+        Err(DeskFault::Foreign(7))
+    }
+
     fn judge_reserve(&mut self, _call: u16) -> Result<Receipt, DeskFault> {
         Err(DeskFault::Foreign(7))
     }
@@ -65,13 +74,14 @@ fn owes<D: DeskView + Drop>(
     Ok(())
 }
 
-/// Neither of these inputs gets further than its first event.
+/// None of these inputs gets further than its first event.
 fn are_foreign(
     rt: &impl Abort,
     alloc: Global,
     controller: &mut Controller<Elsewhere, Global>,
 ) -> Result<(), Fail> {
     owes(rt, alloc, controller, "open 1 0 0 3", "")?;
+    owes(rt, alloc, controller, "seize 1 0 full", "")?;
     owes(rt, alloc, controller, "handover 1 1", "")
 }
 

@@ -146,7 +146,31 @@ requests 4
 ";
 
 /// Calls begin and end, and reports come.
-pub const CALLS: &str = "in open 1 0 0 3
+pub const CALLS: &str = "in seize 1 0 full
+event open 1 0/0/2 -> done
+out abis 0 0 0821010a0300060400010801
+requests 3
+
+from a call that is on
+in seize 2 0 full
+event open 2 0/0/2 -> done
+out abis 0 0 0821010a0300060400010801
+requests 1
+
+from a call that is on
+in seize 1 1 full
+event open 1 1/1/3 -> refused 2
+requests 1
+
+from a call that is to move
+in seize 1 1 full
+requests 1
+
+from a call that is to move
+in seize 2 1 half
+requests 1
+
+in open 1 0 0 3
 in clear 1
 event look 1 -> record 0/0/3 pending
 event clear 1 -> done

@@ -47,6 +47,8 @@ fn ask_in_turn(rt: &(impl Wait + Abort), alloc: Global) -> Result<(), Fail> {
     let none = other.judge_take(2, Kind::Internal, 1, Rate::Full)?;
     assert!(rt; taken.is_some() && none.is_none());
     one.judge_reserve(1)?;
+    let opened = other.judge_open(3, 1, Rate::Full)?;
+    assert!(rt; opened.is_none());
     have_places(rt, &one.into_receipts(), &[0, 2, 3, 4]);
     have_places(rt, &other.into_receipts(), &[1]);
     Ok(())
@@ -66,8 +68,9 @@ fn ask_another(rt: &(impl Wait + Abort), alloc: Global) -> Result<(), Fail> {
     let _first = mem::replace(&mut *lock.lock(rt), new_desk(alloc, alloc)?);
     let asked = seat.judge(Event::Look(1)) == Err(DeskFault::Foreign(1));
     let took = seat.judge_take(1, Kind::Incoming, 0, Rate::Full) == Err(DeskFault::Foreign(1));
+    let opened = seat.judge_open(1, 0, Rate::Full) == Err(DeskFault::Foreign(1));
     let reserved = seat.judge_reserve(1) == Err(DeskFault::Foreign(1));
-    assert!(rt; asked && took && reserved);
+    assert!(rt; asked && took && opened && reserved);
     assert_eq!(rt; lock.lock(rt).len(), 0);
     have_places(rt, &seat.into_receipts(), &[0, 1]);
     Ok(())
@@ -90,9 +93,10 @@ fn ask_without_room(
     heap.refuse_from_now();
     let asked = seat.judge(Event::Look(1)) == Err(DeskFault::NoMemory);
     let took = seat.judge_take(1, Kind::Internal, 0, Rate::Full) == Err(DeskFault::NoMemory);
+    let opened = seat.judge_open(1, 0, Rate::Full) == Err(DeskFault::NoMemory);
     let reserved = seat.judge_reserve(1) == Err(DeskFault::NoMemory);
-    assert!(rt; asked && took && reserved);
-    assert_eq!(rt; heap.refused(), 3);
+    assert!(rt; asked && took && opened && reserved);
+    assert_eq!(rt; heap.refused(), 4);
     assert_eq!(rt; lock.lock(rt).len(), 1);
     have_places(rt, &seat.into_receipts(), &[]);
     Ok(())

@@ -87,30 +87,46 @@ fn is_said(
     Ok(())
 }
 
+/// A list, and some more receipts behind it.
+fn with_more(
+    alloc: Global,
+    head: &[Receipt],
+    more: &[Receipt],
+) -> Result<Vec<Receipt>, AllocError> {
+    let mut list = Vec::from_slice(alloc, head)?;
+    for receipt in more {
+        list.push(*receipt)?;
+    }
+    Ok(list)
+}
+
 /// The lists as they are; the last receipt repeated, and left out; and it with another reply, and with another event.
-fn are_compared(
+pub fn are_compared(
     rt: &(impl AllocGlobal + Abort),
     desk: &Desk<Global>,
     first: &[Receipt],
     second: &[Receipt],
 ) -> Result<(), Fail> {
-    let [one, last] = second else {
-        return Err(Fail::from("two receipts"));
-    };
-    let (one, last) = (*one, *last);
+    let alloc = rt.alloc();
+    let (last, head) = second.split_last().ok_or("no receipt")?;
+    let last = *last;
+    let place = last.place;
     let replied = Receipt {
-        reply: Reply::Done,
+        reply: Reply::Owned(1),
         ..last
     };
     let asked = Receipt {
         event: Event::Look(1),
         ..last
     };
-    is_said(rt, desk, first, &[one, last], Said::Whole)?;
-    is_said(rt, desk, first, &[one, last, last], Said::Twice(3))?;
-    is_said(rt, desk, first, &[one], Said::Count)?;
-    is_said(rt, desk, first, &[one, replied], Said::Missing(3))?;
-    is_said(rt, desk, first, &[one, last, asked], Said::Missing(3))
+    is_said(rt, desk, first, second, Said::Whole)?;
+    let twice = with_more(alloc, head, &[last, last])?;
+    is_said(rt, desk, first, &twice, Said::Twice(place))?;
+    is_said(rt, desk, first, head, Said::Count)?;
+    let replied = with_more(alloc, head, &[replied])?;
+    is_said(rt, desk, first, &replied, Said::Missing(place))?;
+    let asked = with_more(alloc, head, &[last, asked])?;
+    is_said(rt, desk, first, &asked, Said::Missing(place))
 }
 
 /// Two callers ask in turns, and their receipts are compared with the history.

@@ -1,9 +1,9 @@
 //! Allocation failures in an office: each request for memory is refused in turn, of whichever thread it is.
 ghost use Rattle.std.specs.Prelude.{◌≡◌, []};
 
-use super::offices::{Ajar, Hall, Left, are_told_once, empty_desk, inputs_of, opened};
+use super::offices::{Ajar, Hall, Left, are_told_once, empty_desk, have_ended, inputs_of, opened};
 use crate::bag::{Bag, Taken};
-use call_worker::{CloseFault, GiveFault, StartFault, Turn, WorkerEnd};
+use call_worker::{CloseFault, GiveFault, StartFault, Turn, Unclosed, WorkerEnd};
 use ho_procedure::exchange::Inbound;
 use radio_desk::desk::Desk;
 use refusing_heap::{Refusals, RefusingHeap};
@@ -121,10 +121,27 @@ fn are_told<R: Wait + Abort + Drop>(rt: &R, heap: Heap, left: &Left<R, Heap>, to
     assert!(rt; told == heap.refused(), "{told}");
 }
 
-/// One that didn't was refused memory as it closed, once.
-fn is_unclosed(rt: &impl Abort, heap: Heap, fault: CloseFault, told: u64) {
-    assert!(rt; matches!(fault, CloseFault::NoMemory));
+/// How many receipts an office and its workers got.
+fn receipts_of<R: Wait + Drop>(left: &Left<R, Heap>) -> usize {
+    let mut count = left.front.len();
+    for worker in &left.workers {
+        count = count.saturating_add(worker.receipts.len());
+    }
+    count
+}
+
+/// One that didn't was refused memory as it closed, once. The desk that it hands out is its own: there is a receipt of each
+/// entry.
+fn is_unclosed<R: Wait + Abort + Drop>(
+    rt: &R,
+    heap: Heap,
+    unclosed: &Unclosed<Bag<R, Heap>, Heap>,
+    told: u64,
+) {
+    assert!(rt; matches!(unclosed.fault, CloseFault::NoMemory));
     assert!(rt; told == 0 && heap.refused() == 1);
+    let entries = unclosed.left.desk.len();
+    assert!(rt; 0 < entries && entries == receipts_of(&unclosed.left));
 }
 
 /// Closes: each refusal has one answer that names it.
@@ -140,7 +157,7 @@ fn is_told<R: Threads + Wait + Abort + Drop>(
             are_told_once(rt, &left, taken);
             are_told(rt, heap, &left, told);
         }
-        Err(fault) => is_unclosed(rt, heap, fault, told),
+        Err(unclosed) => is_unclosed(rt, heap, &unclosed, told),
     }
 }
 
@@ -157,13 +174,13 @@ fn plays<R: Threads + Wait + Abort + Drop>(
     is_told(rt, heap, hall, taken, told);
 }
 
-/// An office that wasn't started was refused memory, once. The workers that were have ended: nothing is left of their links.
-fn is_not_started(rt: &impl Abort, heap: Heap, fault: StartFault, taken: &Arc<Taken, Heap>) {
+/// An office that wasn't started was refused memory, once.
+fn is_not_started(rt: &impl Abort, heap: Heap, fault: StartFault) {
     assert!(rt; fault == StartFault::NoMemory && heap.refused() == 1);
-    assert!(rt; Arc::strong_count(taken) == 1);
 }
 
-/// Starts an office, gives it all and closes it. How many requests its heap had before?
+/// Starts an office, gives it all and closes it. Whether it starts and closes or not, its workers have ended then. How many
+/// requests its heap had before?
 fn starts<R: Threads + Wait + Abort + Clone + Drop + Send + 'static>(
     rt: &R,
     heap: Heap,
@@ -178,8 +195,9 @@ fn starts<R: Threads + Wait + Abort + Clone + Drop + Send + 'static>(
     let before = heap.requests();
     match opened(rt, heap, desk, gate, taken, 2) {
         Ok(hall) => plays(rt, heap, hall, taken, pace, inputs),
-        Err(fault) => is_not_started(rt, heap, fault, taken),
+        Err(fault) => is_not_started(rt, heap, fault),
     }
+    have_ended(rt, taken);
     before
 }
 

@@ -183,6 +183,11 @@ pub fn are_told_once<R: Wait + Abort + Drop, A: Allocator>(
     assert!(rt; taken.so_far(rt) == given);
 }
 
+/// All workers have ended: nothing is left of their links.
+pub fn have_ended<A: Allocator>(rt: &impl Abort, taken: &Arc<Taken, A>) {
+    assert!(rt; Arc::strong_count(taken) == 1);
+}
+
 /// Closes an office, and looks at what it leaves.
 fn closes<R: Threads + Wait + Abort + AllocGlobal + Drop, C: Course>(
     rt: &R,
@@ -190,7 +195,10 @@ fn closes<R: Threads + Wait + Abort + AllocGlobal + Drop, C: Course>(
     taken: &Taken,
     course: &C,
 ) -> Result<(), Fail> {
-    let left = hall.close()?;
+    let left = match hall.close() {
+        Ok(left) => left,
+        Err(unclosed) => return Err(Fail::from(unclosed.fault)),
+    };
     are_told_once(rt, &left, taken);
     course.see(rt, &left)
 }
@@ -219,7 +227,9 @@ pub fn at_a_desk<
 {
     let taken = Arc::new(rt.alloc(), Taken::new())?;
     let hall = opened(rt, rt.alloc(), desk, gate, &taken, workers)?;
-    plays(rt, hall, &taken, course)
+    plays(rt, hall, &taken, course)?;
+    have_ended(rt, &taken);
+    Ok(())
 }
 
 /// The same over the empty book of a site, with a gate that holds nothing.

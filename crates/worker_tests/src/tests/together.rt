@@ -1,4 +1,5 @@
 //! One worker, and a controller that asks a desk of its own, handle the same inputs.
+use super::gathering::are_compared;
 use super::offices::{
     Course, Hall, Left, at_an_office, empty_desk, give_all, inputs_of, sent_lines, shared_site,
 };
@@ -133,7 +134,8 @@ fn are_owners(rt: &impl Abort, front: &[Receipt]) {
     }
 }
 
-/// A worker got what the controller's desk says, and sent what the controller sent.
+/// A worker got what the controller's desk says, and sent what the controller sent. The office's lists are the desk's history;
+/// with one receipt repeated, changed or left out they aren't.
 fn is_same<R: Wait + Abort + AllocGlobal + Drop>(
     rt: &R,
     left: &Left<R, Global>,
@@ -144,7 +146,7 @@ fn is_same<R: Wait + Abort + AllocGlobal + Drop>(
     are_owners(rt, &left.front);
     let sent = sent_lines(rt.alloc(), &worker.links.sent)?;
     assert!(rt; sent.as_str() == alone.sent.as_str(), "{sent}");
-    Ok(())
+    are_compared(rt, &left.desk, &left.front, &worker.receipts)
 }
 
 /// One worker handles the inputs, as a controller did.

@@ -5,7 +5,7 @@ use Rattle.bts_model.proofs.answer.from_mobile.Goals as goal
 
 pub returns-clause-canonical : goal.returns-clause-canonical
 returns-clause-canonical g c =
-    let said : c.in_ok-new.field-0 ≡ rr_text c.args.message.now = c.in_ok-new.ensures.octets ∙ c.as_slice.ensures.value ∙ c.in_ok-octets.ensures.ok in
-    let long : length c.in_ok-new.field-0 ≡ length (rr_text c.args.message.now) = ap length said in
-    let all = length-append c.in_ok-new.field-0 [] in
+    let said : c.from_vec.result ≡ rr_text c.args.message.now = c.from_vec.ensures.octets ∙ c.in_ok-octets.ensures.ok in
+    let long : length c.from_vec.result ≡ length (rr_text c.args.message.now) = ap length said in
+    let all = length-append c.from_vec.result [] in
     canonical_of _ (c.requires.channel, omega arith) (omega arith)

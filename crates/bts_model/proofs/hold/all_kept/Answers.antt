@@ -1,5 +1,5 @@
 use Rattle.std.proofs.Common.{None, sym, ap, ◌∙◌, is_some, rules}
-use Rattle.channel_fsm.specs.declared.Sub.TheVariants.{Full}
+use Rattle.timeslots.specs.declared.Sub.TheVariants.{Full}
 use Rattle.bts_model.specs.declared.hold.Hold.{Hold}
 use Rattle.bts_model.proofs.KeptFacts.{some_kept}
 use Rattle.bts_model.proofs.hold.all_kept.Goals as goal

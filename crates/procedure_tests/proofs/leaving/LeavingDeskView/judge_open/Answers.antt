@@ -1,0 +1,14 @@
+use Rattle.procedure_tests.proofs.StillSaid.{still_said}
+use Rattle.procedure_tests.proofs.leaving.LeavingDeskView.judge_open.Goals as goal
+
+pub returns-in_err-sits-clause-said : goal.returns-in_err-sits-clause-said
+returns-in_err-sits-clause-said g c = rw (← c.self.view_is) (λ es claim allows. allows)
+
+pub returns-clause-ok : goal.returns-clause-ok
+returns-clause-ok g c = rw (← c.self.view_is) c.judge_open.ensures.ok
+
+pub returns-clause-said : goal.returns-clause-said
+returns-clause-said g c = rw (← c.self.view_is) (still_said _ _ c.judge_open.ensures.said)
+
+pub returns-clause-memory : goal.returns-clause-memory
+returns-clause-memory g c = rw (← c.self.view_is) c.judge_open.ensures.memory
