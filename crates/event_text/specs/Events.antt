@@ -1,7 +1,7 @@
 -- All events, and the one that a text is the text of. Lists so long are only spoken of: no program makes them.
 use Rattle.std.specs.Prelude.{◌≡◌, ◌↔◌, ℕ, List, [], ◌∷◌, map, Option, Some, bytes_eq}
 use Rattle.std.specs.List.{find, flat_map, range_with_len}
-use Rattle.channel_fsm.specs.declared.Sub.TheVariants.{Full, Half0, Half1}
+use Rattle.timeslots.specs.declared.Sub.TheVariants.{Full, Half0, Half1}
 use Rattle.channel_fsm.specs.declared.ChanId.{ChanId}
 use Rattle.attempt_journal.specs.declared.Timer.TheVariants as timer
 use Rattle.radio_book.specs.declared.event.Kind.TheVariants as kind

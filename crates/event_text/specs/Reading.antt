@@ -3,8 +3,8 @@ use Rattle.std.specs.Prelude.{◌==◌, ◌&&◌, ◌||◌, ℕ, Bool, nat_lt, n
 use Rattle.std.specs.List.{list_all}
 use Rattle.std.specs.Char.{is_ascii_digit}
 use Rattle.std.specs.Str.Parse.{digits_value}
-use Rattle.channel_fsm.specs.declared.Sub.{Sub}
-use Rattle.channel_fsm.specs.declared.Sub.TheVariants.{Full, Half0, Half1}
+use Rattle.timeslots.specs.declared.Sub.{Sub}
+use Rattle.timeslots.specs.declared.Sub.TheVariants.{Full, Half0, Half1}
 use Rattle.channel_fsm.specs.declared.ChanId.{ChanId}
 use Rattle.attempt_journal.specs.declared.Timer.TheVariants as timer
 use Rattle.radio_book.specs.declared.event.Kind.{Kind}

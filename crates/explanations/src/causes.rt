@@ -170,7 +170,9 @@ pub fn refusal_words(number: u8) -> Option<&'static str>
     match number {
         1 => Some("there is no such call"),
         2 => Some("the call is there already"),
-        3 => Some("the call or its attempt hasn't come so far, or is past it"),
+        3 => Some(
+            "no attempt is open, or the call or its attempt hasn't come so far, or is past it",
+        ),
         4 => Some("the site names no such traffic channel"),
         5 => Some("the channel lies in the cell where the call is served"),
         6 => Some("this channel isn't free"),

@@ -4,7 +4,7 @@ ghost use Rattle.std.specs.Str.{IsUtf8};
 ghost use Rattle.std.specs.Str.Lossy.{utf8_valid_len};
 ghost use Rattle.lab.specs.Files.{longest_file};
 
-use crate::run_reason::say_refusal;
+use crate::run_reason::{say_cut_script, say_refusal};
 use crate::site_files::{SitePaths, SiteTexts, site_texts};
 use crate::view_paths::{named_twice, refuse_twice};
 use audits::viewed::{AskedRun, audit_viewed};
@@ -157,9 +157,11 @@ fn run_texts<R: Files + AllocGlobal, W: Write, E: Write>(
     let Some(sites) = site_texts(rt, sites, out, errors)? else {
         return Ok(None);
     };
-    let Some(script) = text_of(rt, script, out, errors)? else {
+    let path = script;
+    let Some(script) = text_of(rt, path, out, errors)? else {
         return Ok(None);
     };
+    say_cut_script(path, &script, errors)?;
     Ok(Some(RunTexts { sites, script }))
 }
 
@@ -252,8 +254,9 @@ fn say_ended<E: Write>(
 ///
 /// The site's file is read first, then the peer's, then the script's. Where a file isn't there, can't be read, isn't
 /// UTF-8 or has more than [`LONGEST_FILE`] octets, `file` and its path are printed and nothing else, and the answer is
-/// `Refused`; one line on `errors` says why. Where a site is refused, one line on `errors` says where in its file, and
-/// what is allowed there; where a line of the script is, one says which of its words is wrong, and what may stand there.
+/// `Refused`; one line on `errors` says why. One says of a script whose last line has no line feed that it may be cut. Where
+/// a site is refused, one line on `errors` says where in its file, and what is allowed there; where a line of the script is,
+/// one says which of its words is wrong, and what may stand there.
 pub fn run_files<R: Files + AllocGlobal, W: Write, E: Write>(
     rt: &R,
     sites: SitePaths<'_>,

@@ -74,8 +74,9 @@ fn live_viewed<R: Files + AllocGlobal, I: BufRead, W: Write, E: Write>(
 ///
 /// The file and its site are refused as [`run_files`](crate::files::run_files) refuses them, before anything of `input` is read.
 /// The answer is `Done` at the end of `input`, and `Refused` where the file or the site is, where the capture's file can't be
-/// opened, or where `input` can't be read, as one line on `errors` then says. A write that fails ends the run (`Write`), as
-/// does refused memory (`NoMemory`), before which the messages that are owed are printed.
+/// opened, or where `input` can't be read, as one line on `errors` then says. A write that fails ends the run (`Write`), but one
+/// of the capture, which ends alone, as `errors` then says: the answer is `Write` once `input` has ended. The run ends, too,
+/// with refused memory (`NoMemory`), before which the messages that are owed are printed.
 pub fn live_file<R: Files + AllocGlobal, I: Read + Drop, W: Write, E: Write>(
     rt: &R,
     path: &str,

@@ -10,6 +10,23 @@ use script_reasons::script_reason;
 use std::alloc::Global;
 use std::io::Write;
 
+/// Says that a script may be cut, where its last line has no line feed.
+pub(crate) fn say_cut_script<E: Write>(
+    path: &str,
+    script: &str,
+    errors: &mut E,
+) -> Result<(), LabFault> {
+    if script.is_empty() || script.ends_with("\n") {
+        return Ok(());
+    }
+    writeln!(
+        errors,
+        "{}: the last line has no line feed: it may be cut",
+        Escaped(path)
+    )?;
+    Ok(())
+}
+
 /// Says why the first line of a script that can't be read can't be, if there is one.
 pub(crate) fn say_line<E: Write>(
     alloc: Global,

@@ -1,6 +1,6 @@
 //! Tests and records of scripts in files.
 use crate::files::text_of;
-use crate::run_reason::{say_line, say_refusal};
+use crate::run_reason::{say_cut_script, say_line, say_refusal};
 use crate::site_files::{SitePaths, SiteTexts, say_reasons, site_texts};
 use cell_table::SiteFault;
 use lab_runs::listener::Printing;
@@ -44,6 +44,7 @@ fn test_file<R: Files + AllocGlobal, W: Write, E: Write>(
         print_miss(out, test.number, test.name, Miss::NoFile)?;
         return Ok(Status::Refused);
     };
+    say_cut_script(test.name, &script, errors)?;
     let peer = sites.peer();
     let status = test_run(alloc, alloc, sites.first(), peer, &script, test, out)?;
     if status == Status::Refused {
@@ -112,6 +113,7 @@ fn try_file<R: Files + AllocGlobal, W: Write, E: Write>(
         print_miss(out, tally.next(), name, Miss::NoFile)?;
         return Ok(Status::Refused);
     };
+    say_cut_script(name, &script, errors)?;
     let trial = Trial {
         site: sites.first(),
         peer: sites.peer(),
@@ -126,9 +128,17 @@ fn try_file<R: Files + AllocGlobal, W: Write, E: Write>(
     Ok(status)
 }
 
+/// Says that no attempt was taken back, where none was.
+fn say_no_attempts<E: Write>(tally: &Tally, errors: &mut E) -> io::Result<()> {
+    if tally.tests == 0 {
+        writeln!(errors, "no attempts: nothing was taken back")?;
+    }
+    Ok(())
+}
+
 /// Takes each attempt of the scripts of some files back at each point, over the site of another, or over two where a peer's is
-/// named, as [`try_undos`] does of texts, and prints TAP: each test, then how many there were and what came of them. Scripts
-/// and sites are refused as by [`test_files`].
+/// named, as [`try_undos`] does of texts, and prints TAP: each test, then how many there were and what came of them; where
+/// there was none, `errors` says so. Scripts and sites are refused as by [`test_files`].
 pub fn try_undos_files<R: Files + AllocGlobal, W: Write, E: Write>(
     rt: &R,
     paths: SitePaths<'_>,
@@ -145,6 +155,7 @@ pub fn try_undos_files<R: Files + AllocGlobal, W: Write, E: Write>(
         ended = worse(ended, try_file(rt, &sites, *name, &mut tally, out, errors)?);
     }
     print_tally(out, &tally)?;
+    say_no_attempts(&tally, errors)?;
     Ok(ended)
 }
 

@@ -59,6 +59,20 @@ fn say_no_attempt<E: Write>(path: &str, line: usize, errors: &mut E) -> io::Resu
     )
 }
 
+/// Whether no line of a text is one of an event.
+fn has_no_event(text: &str) -> bool {
+    !text.split('\n').any(|line| line.starts_with("event "))
+}
+
+/// Says that a text has no event, where it has none; answers whether it has none.
+fn say_no_events<E: Write>(path: &str, text: &str, errors: &mut E) -> io::Result<bool> {
+    if !has_no_event(text) {
+        return Ok(false);
+    }
+    writeln!(errors, "{}: no events: is this a trace?", Escaped(path))?;
+    Ok(true)
+}
+
 /// Takes an undone attempt out of the trace of one file, over the site of another, and prints what stays, as
 /// [`rewind_run`] does of texts. Files and the site are refused as [`run_files`](crate::files::run_files) refuses them.
 pub fn rewind_files<R: Files + AllocGlobal, W: Write, E: Write>(
@@ -74,7 +88,10 @@ pub fn rewind_files<R: Files + AllocGlobal, W: Write, E: Write>(
         return Ok(Status::Refused);
     };
     let status = rewind_run(alloc, alloc, &texts.site, &texts.trace, line, out)?;
-    if status == Status::Refused && !say_refused(alloc, site, trace, &texts, "rewind", errors)? {
+    if status == Status::Refused
+        && !say_refused(alloc, site, trace, &texts, "rewind", errors)?
+        && !say_no_events(trace, &texts.trace, errors)?
+    {
         say_no_attempt(trace, line, errors)?;
     }
     Ok(status)
@@ -96,6 +113,8 @@ pub fn audit_files<R: Files + AllocGlobal, W: Write, E: Write>(
     let status = audit_run(alloc, alloc, &texts.site, &texts.trace, out)?;
     if status == Status::Refused {
         let _ = say_refused(alloc, site, trace, &texts, "audit", errors)?;
+    } else {
+        let _ = say_no_events(trace, &texts.trace, errors)?;
     }
     Ok(status)
 }

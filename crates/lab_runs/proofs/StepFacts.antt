@@ -7,7 +7,7 @@ use Rattle.std.proofs.lemmas.List.Elements.{All-head, All-tail}
 use Rattle.radio_book.specs.State.{State}
 use Rattle.radio_desk.specs.Desk.{DeskState}
 use Rattle.ho_procedure.specs.Claims.{Entry, IsTrueAfter}
-use Rattle.channel_fsm.specs.declared.Rate.{Rate}
+use Rattle.timeslots.specs.declared.Rate.{Rate}
 use Rattle.ho_procedure.specs.Claims as claim
 use Rattle.trace_text.specs.declared.trace.Step.{Step}
 use Rattle.trace_text.specs.declared.trace.Step.TheVariants.{Asked, NoneFree}

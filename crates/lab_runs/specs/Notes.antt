@@ -1,7 +1,7 @@
 -- A desk of one's own, with notes of where no channel was free. Ours, of no standard.
 use Rattle.std.specs.Prelude.{◌≡◌, ◌++◌, ◌∷◌, ◌==◌, if◌then◌else◌, ℕ, suc, List, [], Option, Some, None, length, refl}
 use Rattle.std.specs.Coded.{Coded, code_by, coded×, coded_list}
-use Rattle.channel_fsm.specs.declared.Rate.{Rate}
+use Rattle.timeslots.specs.declared.Rate.{Rate}
 use Rattle.radio_book.specs.State.{State}
 use Rattle.radio_desk.specs.Desk.{DeskState, desk_code}
 use Rattle.radio_desk.specs.declared.seat.Receipt.{Receipt}

@@ -1,7 +1,7 @@
 //! A view of a desk that notes where it found no free channel, for a trace.
 ghost use Rattle.std.specs.Prelude.{◌≡◌, ◌∷◌, ◌++◌, [], ℕ, List, All, drop, length, IfOk, IfErr, OnErr, IfSome, MatchOption};
 ghost use Rattle.channel_fsm.specs.declared.ChanId.{ChanId};
-ghost use Rattle.channel_fsm.specs.Slots.{rate_of};
+ghost use Rattle.timeslots.specs.Parts.{rate_of};
 ghost use Rattle.radio_desk.specs.Desk.{IsJudged};
 ghost use Rattle.ho_procedure.specs.Claims.{Entry, Claim, IsForeign, IsNoMemory, NoneFree, Chosen, UnknownReceipt, TakeMayBeRefused};
 ghost use Rattle.lab_runs.specs.Notes.{IsTrueNote, notes_after};
@@ -125,6 +125,36 @@ impl<A: Allocator + Copy> DeskView for Noting<A> {
             None => {
                 let place = self.solo.desk().len();
                 self.notes.push_reserved(Note { place, cell, rate });
+                Ok(None)
+            }
+        }
+    }
+
+    // As `judge_take`: each time that no channel is free is noted.
+    fn judge_open(&mut self, call: u16, cell: u8, rate: Rate) -> Result<Option<Receipt>, DeskFault>
+        ensures ok { IfOk result (λ answer. MatchOption answer
+            ((history_of self.new ≡ history_of self.old) × says self.old (history_of self.old) (NoneFree cell rate))
+            (λ r. ((x : ChanId) × (x.cell ≡ cell) × (rate_of x.sub ≡ rate) × (r.event ≡ Event.Open call x)) ×
+            says self.old (history_of self.old) (Chosen r.event) ×
+            (history_of self.new ≡ history_of self.old ++ (r.event, r.reply) ∷ []))) }
+        ensures noted { IfOk result (λ answer. self.new.notes ≡ notes_after self.old cell rate answer) }
+        ensures receipt { IfOk result (λ answer. IfSome answer
+            (λ r. IsJudged self.old.desk r self.new.desk × (self.new.notes ≡ self.old.notes))) }
+        ensures err { OnErr result (history_of self.new ≡ history_of self.old) }
+        ensures foreign { IfErr result (λ f. (place : ℕ) → IsForeign f place →
+            says self.old (history_of self.old) (UnknownReceipt place)) }
+        ensures memory { IfErr result (λ f. IsNoMemory f →
+            says self.old (history_of self.old) (TakeMayBeRefused cell rate)) }
+        ensures said { (es : List Entry) → (claim : Claim) →
+            says self.new es claim → says self.old es claim }
+    {
+        self.notes.reserve(1)?;
+        match self.solo.judge_open(call, cell, rate)? {
+            Some(receipt) => Ok(Some(receipt)),
+            None => {
+                let place = self.solo.desk().len();
+                let note = Note { place, cell, rate };
+                self.notes.push_reserved(note);
                 Ok(None)
             }
         }

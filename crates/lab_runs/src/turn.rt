@@ -10,7 +10,6 @@ use ho_procedure::controller::Controller;
 use ho_procedure::exchange::{Bad, Fault, Inbound, Outbound};
 use lab_script::script::Side;
 use radio_desk::desk::Desk;
-use rsl_messages::Octets;
 use std::alloc::{AllocError, Allocator, Global};
 use trace_text::trace::Step;
 
@@ -74,28 +73,6 @@ fn owed_of<A: Allocator>(answer: Answer<A>) -> TurnFault<A>
     match answer {
         Answer::Sent(messages) => TurnFault::Owed(messages),
         Answer::Undecoded(_) => TurnFault::NoMemory,
-    }
-}
-
-/// The same input once more.
-fn copy_of<A: Allocator + Copy>(alloc: A, input: &Inbound<A>) -> Result<Inbound<A>, AllocError>
-    ensures { IfOk result (λ copy. copy ≡ input.now) }
-{
-    match input {
-        Inbound::Abis { cell, trx, bytes } => Ok(Inbound::Abis {
-            cell: *cell,
-            trx: *trx,
-            bytes: Octets::new(alloc, bytes.as_slice())?,
-        }),
-        Inbound::A { call, bytes } => Ok(Inbound::A {
-            call: *call,
-            bytes: Octets::new(alloc, bytes.as_slice())?,
-        }),
-        Inbound::Expiry { call, timer } => Ok(Inbound::Expiry {
-            call: *call,
-            timer: *timer,
-        }),
-        Inbound::Operator(line) => Ok(Inbound::Operator(*line)),
     }
 }
 
@@ -185,7 +162,7 @@ pub fn take_turn<A: Allocator + Copy>(
 {
     let first = controller.view().desk().len();
     let noted = controller.view().noted();
-    let given = copy_of(alloc, &input)?;
+    let given = input.copy(alloc)?;
     let answer = handled(controller, given)?;
     let view = controller.view();
     match steps_from(alloc, view.desk(), view.notes_from(noted), first) {

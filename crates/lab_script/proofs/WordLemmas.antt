@@ -12,13 +12,13 @@ use Rattle.std.proofs.lemmas.Str.Parse.{IsNumeralModel, numerals_by_value, parse
 use Rattle.hex.proofs.HexLemmas.{decode_of-digits, decode_of-ok}
 use Rattle.hex.specs.declared.error.FromHexError.{FromHexError}
 use Rattle.hex.specs.Hex.{decode_of, is_hex_digit}
-use Rattle.channel_fsm.specs.declared.Sub.{Sub}
-use Rattle.channel_fsm.specs.declared.Sub.TheVariants.{Full}
+use Rattle.timeslots.specs.declared.Sub.{Sub}
+use Rattle.timeslots.specs.declared.Sub.TheVariants.{Full}
 use Rattle.channel_fsm.specs.declared.ChanId.{ChanId}
 use Rattle.bts_model.specs.declared.setting.Act.TheVariants.{Mobile, Cut}
 use Rattle.lab_script.specs.declared.side.Side.{Side}
 use Rattle.lab_script.specs.Words.{words_of, number_below, octets_of, is_slash, around_slash, half_of, slot_at, timeslot_in, timeslot_of, channel_at, channel_of}
-use Rattle.lab_script.specs.Operators.{handover_at, handover_of, call_of, timer_of, expiry_at, expiry_of}
+use Rattle.lab_script.specs.Operators.{rate_of, seize_at, seize_of, handover_at, handover_of, call_of, timer_of, expiry_at, expiry_of}
 use Rattle.lab_script.specs.Received.{abis_at, abis_of, a_at, a_of}
 use Rattle.lab_script.specs.Stations.{habit_of, setting_at, mobile_of, unless_none, count_of, cut_of}
 
@@ -143,6 +143,14 @@ lone_timer text = lone_word timer_of text (λ more. named more (bytes_eq text (c
     named more false e false f true g = absurd (more (one_name (codes "T8") refl text g))
     named more false e false f false g = rw (e, f, g) refl
 
+pub lone_rate : (text : List ℕ) → lone rate_of (words_of text) ≡ rate_of text
+lone_rate text = lone_word rate_of text (λ more. named more (bytes_eq text (codes "full")) refl (bytes_eq text (codes "half")) refl)
+  where
+    named : words_of text ≢ text ∷ [] → (a : Bool) → bytes_eq text (codes "full") ≡ a → (b : Bool) → bytes_eq text (codes "half") ≡ b → rate_of text ≡ None
+    named more true e b f = absurd (more (one_name (codes "full") refl text e))
+    named more false e true f = absurd (more (one_name (codes "half") refl text f))
+    named more false e false f = rw (e, f) refl
+
 pub lone_habit : (text : List ℕ) → lone habit_of (words_of text) ≡ habit_of text
 lone_habit text = lone_word habit_of text (λ more. named more (bytes_eq text (codes "arrive")) refl (bytes_eq text (codes "return")) refl (bytes_eq text (codes "vanish")) refl)
   where
@@ -249,6 +257,19 @@ handover_words call cell = by_words (words_of cell) ∙ ap (handover_at (number_
     by_words [] = sym (nothing _)
     by_words (word ∷ []) = refl
     by_words (word ∷ next ∷ rest) = sym (nothing _)
+
+pub seize_words : (call cell rate : List ℕ) → seize_of (call ∷ cell ∷ words_of rate) ≡ seize_at (number_below 65536 call) (number_below 256 cell) (rate_of rate)
+seize_words call cell rate = by_words (words_of rate) ∙ ap (seize_at (number_below 65536 call) (number_below 256 cell)) (lone_rate rate)
+  where
+    nothing : (call cell : Option ℕ) → seize_at call cell None ≡ None
+    nothing (Some call) (Some cell) = refl
+    nothing (Some call) None = refl
+    nothing None cell = refl
+
+    by_words : (words : List (List ℕ)) → seize_of (call ∷ cell ∷ words) ≡ seize_at (number_below 65536 call) (number_below 256 cell) (lone rate_of words)
+    by_words [] = sym (nothing _ _)
+    by_words (word ∷ []) = refl
+    by_words (word ∷ next ∷ rest) = sym (nothing _ _)
 
 pub call_words : (call : List ℕ) → call_of (words_of call) ≡ number_below 65536 call
 call_words call = by_words (words_of call) ∙ lone_number 65536 call

@@ -5,6 +5,7 @@ ghost use Rattle.lab_script.specs.Operators as said;
 
 use crate::words::{call_number, channel, first_word, octet};
 use attempt_journal::Timer;
+use channel_fsm::Rate;
 use ho_procedure::exchange::Line;
 
 /// `CALL CELL TRX TN`
@@ -15,6 +16,30 @@ fn open(text: &str) -> Option<Line>
     Some(Line::Open {
         call: call_number(call)?,
         chan: channel(chan)?,
+    })
+}
+
+/// The rate of this name.
+fn rate(text: &str) -> Option<Rate>
+    ensures { result ≡ said.rate_of text.now }
+{
+    match text {
+        "full" => Some(Rate::Full),
+        "half" => Some(Rate::Half),
+        _ => None,
+    }
+}
+
+/// `CALL CELL RATE`
+fn seize(text: &str) -> Option<Line>
+    ensures { result ≡ said.seize_of (words_of text.now) }
+{
+    let (call, place) = first_word(text)?;
+    let (cell, name) = first_word(place)?;
+    Some(Line::Seize {
+        call: call_number(call)?,
+        cell: octet(cell)?,
+        rate: rate(name)?,
     })
 }
 
@@ -36,6 +61,7 @@ pub(crate) fn operator_line(line: &str) -> Option<Line>
     let (keyword, text) = first_word(line)?;
     match keyword {
         "open" => open(text),
+        "seize" => seize(text),
         "handover" => handover(text),
         "undo" => Some(Line::Undo {
             call: call_number(text)?,

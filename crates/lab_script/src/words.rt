@@ -140,7 +140,7 @@ pub(crate) fn octets<A: Allocator + Copy>(alloc: A, text: &str) -> Result<Octets
     ensures { IfOk result (λ octets. IfSome (said.octets_of text.now) (λ written. octets ≡ written)) }
 {
     match hex::decode(alloc, text) {
-        Ok(octets) => Octets::new(alloc, &octets),
+        Ok(octets) => Ok(Octets::from_vec(octets)),
         Err(_) => Err(AllocError),
     }
 }

@@ -46,7 +46,7 @@ Links: rr is the radio path (TS 44.018), a the switching centre (TS 48.008), abi
 
 Statuses: 0 the cause has words, 2 the words of the command are wrong, 3 memory was refused.
 
-As in: bsc_lab explain cause a 33";
+As in: bsc_lab explain cause a 33, or, in hexadecimal: bsc_lab explain cause a 0x21";
 
 /// What stands behind the help of `explain fault`.
 const FAULT_HELP: &str = "\
@@ -78,7 +78,7 @@ fn cause_command<'a>(alloc: Global) -> Result<Command<'a>, AllocError> {
         .about("A cause that a message carries, as in: explain cause a 33")
         .after_help(CAUSE_HELP)
         .arg(link_argument(alloc))?
-        .arg(number_argument(alloc, "The cause in decimal, 0 to 255"))
+        .arg(number_argument(alloc, "The cause, 0 to 255, or in hexadecimal, 0x0 to 0xff"))
 }
 
 /// `fault LINK N ARGUMENT`
@@ -111,6 +111,28 @@ pub(crate) fn explain_command<'a>(alloc: Global) -> Result<Command<'a>, AllocErr
     let command = with(command, refused_command(alloc))?;
     let command = with(command, cause_command(alloc))?;
     with(command, fault_command(alloc))
+}
+
+/// The octet of two hexadecimal digits or one behind `0x`.
+fn hexadecimal_octet(word: &str) -> Option<u8> {
+    let digits = word.strip_prefix("0x")?;
+    if !digits.bytes().all(|octet| octet.is_ascii_hexdigit()) {
+        return None;
+    }
+    u8::from_str_radix(digits, 16).ok()
+}
+
+/// What the words of a command line ask that name a cause in hexadecimal, which [`explain_command`] doesn't match; `None` of
+/// all others.
+pub(crate) fn hexadecimal_question(words: &[&str]) -> Option<Question> {
+    let [command, what, link, number] = words else {
+        return None;
+    };
+    if *command != "explain" || *what != "cause" {
+        return None;
+    }
+    let cause = hexadecimal_octet(*number)?;
+    Some(Question::Cause(LinkName::named(*link)?, cause))
 }
 
 /// What the words behind `explain` ask; `None` where they weren't matched by [`explain_command`].

@@ -10,6 +10,7 @@ macro_rules! with_script_lines {
 Lines of a script (one blank between two words, numbers in decimal, HEX in hexadecimal; TN is 0
 to 7, with /0 or /1 behind it for half rate):
   open CALL CELL TRX TN       an operator opens a call on a channel
+  seize CALL CELL RATE        an operator opens a call on a free channel of a cell, full or half
   handover CALL CELL          an operator asks for the handover of a call to a cell
   undo CALL                   an operator takes the handover of a call back
   clear CALL                  an operator ends a call

@@ -73,7 +73,11 @@ const NUMBERS: &[(&str, &str, &str)] = &[
     ("storm", "'--workers <N>'", "; N is a number from 1 to 16"),
     ("storm", "'--calls <M>'", "; M is a number from 1 to 1024"),
     ("refused", "'<N>'", "; N is a number from 1 to 9"),
-    ("cause", "'<N>'", "; N is a number from 0 to 255"),
+    (
+        "cause",
+        "'<N>'",
+        "; N is a number from 0 to 255, or from 0x0 to 0xff",
+    ),
     (
         "fault",
         "'<N>'",

@@ -1,7 +1,7 @@
 //! The words of the command line.
 ghost use Rattle.std.specs.Prelude.{◌≡◌};
 
-use crate::explain_words::{explain_command, question_of};
+use crate::explain_words::{explain_command, hexadecimal_question, question_of};
 use crate::help::{
     AUDIT_HELP, CHECK_HELP, DECODE_HELP, ENCODE_HELP, LIVE_HELP, REWIND_HELP, RUN_HELP,
 };
@@ -449,6 +449,9 @@ fn unmatched<'a>(alloc: Global, words: &[&str], error: Error) -> Result<Job<'a>,
 ///
 /// No clause says which words are which: that is shown by tests.
 pub fn read_words<'a>(alloc: Global, words: &'a [&'a str]) -> Result<Job<'a>, WordsFault> {
+    if let Some(question) = hexadecimal_question(words) {
+        return Ok(Job::Explain(question));
+    }
     match lab_command(alloc)?.try_get_matches_from(words) {
         Ok(matches) => match any_job_of(alloc, &matches)? {
             Some(job) => Ok(job),

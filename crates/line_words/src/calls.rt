@@ -72,6 +72,7 @@ pub(crate) fn taken_by(event: Event) -> Option<(u16, ChanId)> {
 fn call_of_line(line: Line) -> u16 {
     match line {
         Line::Open { call, .. }
+        | Line::Seize { call, .. }
         | Line::Handover { call, .. }
         | Line::Undo { call }
         | Line::Clear { call } => call,
@@ -95,7 +96,7 @@ impl<A: Allocator + Copy> Known<A> {
     /// The call of octets that come or are sent.
     fn of_content(&self, content: &Content<A>) -> Option<u16> {
         match content {
-            Content::Abis(place, _) => self.had(place.chan?),
+            Content::Abis(place, _) | Content::Rowless(place, _) => self.had(place.chan?),
             Content::A(call, _) => Some(*call),
             Content::Nothing => None,
         }

@@ -1,4 +1,5 @@
 //! What the octets of a line are, decoded once for all that is said of it.
+use crate::rowless::rowless_name;
 use bssmap_messages::{Bssmap, BssmapFault};
 use channel_fsm::ChanId;
 use ho_procedure::exchange::{Inbound, Outbound};
@@ -23,6 +24,8 @@ pub struct Place {
 pub enum Content<A: Allocator = Global> {
     /// Octets on Abis.
     Abis(Place, Option<Rsl<A>>),
+    /// A message on Abis that the codec doesn't read, since no row takes it, by its name.
+    Rowless(Place, &'static str),
     /// Octets on A about a call.
     A(u16, Option<Bssmap<A>>),
     /// No octets.
@@ -89,11 +92,20 @@ fn on_abis<A: Allocator + Copy>(
     trx: u8,
     octets: &[u8],
 ) -> Result<Content<A>, AllocError> {
-    let (chan, message) = match rsl_messages::decode(alloc, octets) {
-        Ok(message) => (Some(chan_of(cell, trx, &message)), Some(message)),
-        Err(fault) => (channel_of_none(alloc, cell, trx, octets, fault)?, None),
-    };
-    Ok(Content::Abis(Place { cell, trx, chan }, message))
+    match rsl_messages::decode(alloc, octets) {
+        Ok(message) => {
+            let chan = Some(chan_of(cell, trx, &message));
+            Ok(Content::Abis(Place { cell, trx, chan }, Some(message)))
+        }
+        Err(fault) => {
+            let chan = channel_of_none(alloc, cell, trx, octets, fault)?;
+            let place = Place { cell, trx, chan };
+            Ok(match rowless_name(octets) {
+                Some(name) => Content::Rowless(place, name),
+                None => Content::Abis(place, None),
+            })
+        }
+    }
 }
 
 /// What octets on A are.

@@ -9,6 +9,7 @@ mod causes;
 mod content;
 mod held;
 mod names;
+mod rowless;
 mod state;
 mod words;
 

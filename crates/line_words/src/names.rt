@@ -66,6 +66,7 @@ pub fn message_name<A: Allocator + Copy>(
     match content {
         Content::Abis(_, Some(message)) => abis_name(alloc, message),
         Content::A(_, Some(message)) => a_name(alloc, message),
+        Content::Rowless(_, name) => String::from_str(alloc, *name),
         Content::Abis(_, None) | Content::A(_, None) | Content::Nothing => {
             String::from_str(alloc, NO_MESSAGE)
         }

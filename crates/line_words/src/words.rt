@@ -5,7 +5,7 @@ use bssmap_messages::Bssmap;
 use explanations::{Question, answer_to};
 use ho_procedure::exchange::{Bad, Inbound};
 use radio_book::book::Usage;
-use radio_book::event::Reply;
+use radio_book::event::{Event, Refusal, Reply};
 use rr_messages::Rr;
 use rsl_messages::Rsl;
 use std::alloc::Allocator;
@@ -73,12 +73,24 @@ fn print_message<A: Allocator + Copy, W: Write>(
     match content {
         Content::Abis(_, Some(message)) => print_abis(out, message),
         Content::A(_, Some(message)) => print_a(out, message),
+        Content::Rowless(_, name) => write!(out, "; {name}; ignored: no row"),
         Content::Abis(_, None) | Content::A(_, None) | Content::Nothing => Ok(()),
     }
 }
 
+/// Whether an undo was refused because no attempt of its call is open: that is the only stage in which it is refused.
+fn is_without_attempt(event: Event, reply: Reply) -> bool {
+    matches!(
+        (event, reply),
+        (Event::Undo(..), Reply::Refused(Refusal::WrongPhase))
+    )
+}
+
 /// The name of a refusal.
-fn print_reply<W: Write>(out: &mut W, reply: Reply) -> io::Result<()> {
+fn print_reply<W: Write>(out: &mut W, event: Event, reply: Reply) -> io::Result<()> {
+    if is_without_attempt(event, reply) {
+        return write!(out, "; WrongPhase: no attempt of the call is open");
+    }
     match reply {
         Reply::Refused(refusal) => print_answer(out, Question::Refusal(refusal_number(refusal))),
         Reply::Done | Reply::Owned(_) | Reply::Record(..) => Ok(()),
@@ -130,9 +142,9 @@ pub fn print_words<A: Allocator + Copy, W: Write>(
             print_call(out, call)?;
             print_message(out, content)
         }
-        TraceLine::Step(Step::Asked(_, reply)) => {
+        TraceLine::Step(Step::Asked(event, reply)) => {
             print_call(out, call)?;
-            print_reply(out, *reply)
+            print_reply(out, *event, *reply)
         }
         TraceLine::Step(Step::NoneFree(..)) => print_call(out, call),
         TraceLine::Fault(bad) => {

@@ -58,7 +58,7 @@ fn take_line<A: Allocator + Copy, L: LiveListener<A>, E: Write>(
     if !live.take(line, listener)? {
         refuse(number, line, live.has_sim, listener, errors)?;
     }
-    Ok(listener.hear_line_end()?)
+    Ok(listener.hear_line_end(errors)?)
 }
 
 /// Reads the next line and takes it; whether there was one.
@@ -125,7 +125,7 @@ fn run_to_end<A: Allocator + Copy, R: BufRead, L: LiveListener<A>, E: Write>(
 {
     take_all(alloc, live, reader, listener, errors)?;
     live.course.tell_ends(listener)?;
-    Ok(listener.hear_line_end()?)
+    Ok(listener.hear_line_end(errors)?)
 }
 
 /// Runs a controller of a site by the lines of a reader, each as it comes, from the empty book on: what a line gives is handled

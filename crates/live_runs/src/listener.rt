@@ -11,8 +11,8 @@ use trace_text::trace::{Mark, print_sent};
 
 /// Who hears what comes of lines as they come, and hands it on line by line.
 pub trait LiveListener<A: Allocator + Copy>: Listener<A> {
-    /// No more comes of this line: what was heard so far is handed on.
-    fn hear_line_end(&mut self) -> Result<(), LabFault>;
+    /// No more comes of this line: what was heard so far is handed on. What is to be told a person goes to `errors`.
+    fn hear_line_end<E: Write>(&mut self, errors: &mut E) -> Result<(), LabFault>;
 }
 
 /// A listener that prints the trace, and what is owed where memory is refused; behind each line it is flushed.
@@ -55,7 +55,7 @@ impl<W: Write, A: Allocator + Copy> Listener<A> for LivePrinting<'_, W> {
 }
 
 impl<W: Write, A: Allocator + Copy> LiveListener<A> for LivePrinting<'_, W> {
-    fn hear_line_end(&mut self) -> Result<(), LabFault> {
+    fn hear_line_end<E: Write>(&mut self, _errors: &mut E) -> Result<(), LabFault> {
         Ok(self.out.flush()?)
     }
 }

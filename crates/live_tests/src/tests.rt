@@ -1,5 +1,7 @@
 //! What no clause says, and no command line shows: what is printed where memory is refused, at each request in turn, and what
 //! comes of a reader that fails and of one that gives little at a time.
+mod viewed;
+
 use cell_table::Site;
 use live_runs::{LiveFault, LivePrinting, live_run};
 use refusing_heap::RefusingHeap;

@@ -68,7 +68,7 @@ pub struct RunChart<A: Allocator = Global> {
 /// The place of the other end of a message, where there is a message.
 fn other_lane<A: Allocator>(mark: Mark, content: &Content<A>) -> Option<u32> {
     match content {
-        Content::Abis(..) => Some(stations(mark)),
+        Content::Abis(..) | Content::Rowless(..) => Some(stations(mark)),
         Content::A(..) => Some(CENTRE),
         Content::Nothing => None,
     }
@@ -90,7 +90,7 @@ fn arrow_text<A: Allocator + Copy>(
 ) -> Result<String<A>, AllocError> {
     let mut text = String::new(alloc);
     match content {
-        Content::Abis(place, _) => push_place(&mut text, *place)?,
+        Content::Abis(place, _) | Content::Rowless(place, _) => push_place(&mut text, *place)?,
         Content::A(..) | Content::Nothing => {}
     }
     text.push_str(&message_name(alloc, content)?)?;

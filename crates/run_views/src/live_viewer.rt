@@ -1,6 +1,6 @@
 //! A listener that views what comes of lines as they come.
 use crate::options::Views;
-use crate::sheets::{Sheet, Sheets, say_left_out, say_unwritten};
+use crate::sheets::{Sheet, Sheets, say_left_out};
 use crate::viewer::Viewer;
 use capture::RunCapture;
 use cell_table::SiteFault;
@@ -10,18 +10,21 @@ use lab_runs::run::LabFault;
 use lab_runs::turn::Turn;
 use live_runs::LiveListener;
 use radio_book::book::Book;
+use screen_text::{Escaped, Reason};
 use std::alloc::{Allocator, Global};
 use std::fs::OpenFile;
 use std::io::{self, Write};
 use trace_text::trace::Mark;
 
-/// Prints the trace of lines as they come, as [`Viewer`] does that of a run, and writes the capture to its file as it grows.
+/// Prints the trace of lines as they come, as [`Viewer`] does that of a run, and writes the capture to its file as it grows. A
+/// capture that can't be written any more ends alone.
 #[derive(Drop)]
 pub struct LiveViewer<'a, 'p, W: Write, F: Write + Drop, A: Allocator + Copy = Global> {
     viewer: Viewer<'a, W, A>,
+    /// The capture's file, as long as it can be written.
     pcap: Option<Sheet<'p, F>>,
-    /// Why the capture couldn't be written, where it couldn't be.
-    unwritten: Option<io::Error>,
+    /// Whether it couldn't be.
+    is_cut: bool,
 }
 
 /// Writes what a capture has of its file, and then has it no more.
@@ -35,20 +38,14 @@ fn write_on<F: Write + Drop, A: Allocator + Copy>(
     Ok(())
 }
 
-/// Says why a capture couldn't be written, where it couldn't be; else how many messages it hasn't.
-fn say_end<F: Write + Drop, E: Write>(
-    pcap: Option<Sheet<'_, F>>,
-    unwritten: Option<io::Error>,
-    left_out: u64,
-    errors: &mut E,
-) -> Result<(), LabFault> {
-    let Some(sheet) = pcap else {
-        return Ok(());
-    };
-    match unwritten {
-        Some(error) => Err(say_unwritten(sheet.path, error, errors)),
-        None => say_left_out(sheet.path, left_out, errors),
-    }
+/// Says that a capture ends, and why: its file can't be written any more.
+fn say_cut<E: Write>(path: &str, error: io::Error, errors: &mut E) -> io::Result<()> {
+    writeln!(
+        errors,
+        "{}: {}; the capture ends, and the controller goes on",
+        Escaped(path),
+        Reason(&error)
+    )
 }
 
 impl<'a, 'p, W: Write, F: Write + OpenFile + Drop, A: Allocator + Copy> LiveViewer<
@@ -72,37 +69,47 @@ impl<'a, 'p, W: Write, F: Write + OpenFile + Drop, A: Allocator + Copy> LiveView
         Ok(LiveViewer {
             viewer,
             pcap,
-            unwritten: None,
+            is_cut: false,
         })
     }
 
-    /// Ends it: says on `errors` why the capture couldn't be written, where it couldn't be; else how many messages it hasn't.
+    /// Ends it: says on `errors` how many messages the capture hasn't. Where its file couldn't be written to the end, as
+    /// `errors` was told then, the answer is `Write`.
     pub fn finish<E: Write>(self, errors: &mut E) -> Result<(), LabFault> {
         let LiveViewer {
             viewer,
             pcap,
-            unwritten,
+            is_cut,
         } = self;
-        let left_out = match viewer.capture() {
-            Some(capture) => capture.left_out(),
-            None => 0,
-        };
-        say_end(pcap, unwritten, left_out, errors)
+        if is_cut {
+            return Err(LabFault::Write);
+        }
+        match (pcap, viewer.capture()) {
+            (Some(sheet), Some(capture)) => { say_left_out(sheet.path, capture.left_out(), errors) }
+            (None, _) | (_, None) => Ok(()),
+        }
     }
 }
 
 impl<W: Write, F: Write + Drop, A: Allocator + Copy> LiveViewer<'_, '_, W, F, A> {
-    /// Writes what the capture has gained.
-    fn write_capture(&mut self) -> Result<(), LabFault> {
+    /// Ends the capture, whose file can't be written, and says so.
+    fn end_capture<E: Write>(&mut self, error: io::Error, errors: &mut E) -> Result<(), LabFault> {
+        self.viewer.drop_capture();
+        self.is_cut = true;
+        match self.pcap.take() {
+            Some(sheet) => Ok(say_cut(sheet.path, error, errors)?),
+            None => Ok(()),
+        }
+    }
+
+    /// Writes what the capture has gained. Where that can't be, the capture ends, and nothing else.
+    fn write_capture<E: Write>(&mut self, errors: &mut E) -> Result<(), LabFault> {
         let (Some(sheet), Some(capture)) = (&mut self.pcap, self.viewer.capture_mut()) else {
             return Ok(());
         };
         match write_on(sheet, capture) {
             Ok(()) => Ok(()),
-            Err(error) => {
-                self.unwritten = Some(error);
-                Err(LabFault::Write)
-            }
+            Err(error) => self.end_capture(error, errors),
         }
     }
 }
@@ -143,8 +150,8 @@ impl<W: Write, F: Write + Drop, A: Allocator + Copy> Listener<A> for LiveViewer<
 
 impl<W: Write, F: Write + Drop, A: Allocator + Copy> LiveListener<A>
     for LiveViewer<'_, '_, W, F, A> {
-    fn hear_line_end(&mut self) -> Result<(), LabFault> {
+    fn hear_line_end<E: Write>(&mut self, errors: &mut E) -> Result<(), LabFault> {
         self.viewer.flush()?;
-        self.write_capture()
+        self.write_capture(errors)
     }
 }

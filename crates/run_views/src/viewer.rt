@@ -181,6 +181,11 @@ impl<'a, W: Write, A: Allocator + Copy> Viewer<'a, W, A> {
         self.capture.as_mut()
     }
 
+    /// Gathers no capture any more.
+    pub(crate) fn drop_capture(&mut self) {
+        self.capture = None;
+    }
+
     /// Prints what a controller's book holds, where that is asked for.
     fn print_state(&mut self, mark: Mark, book: &Book<A>) -> Result<(), LabFault> {
         match &mut self.state {

@@ -65,7 +65,7 @@ one_wrong form [] word words h e = absurd (omega arith)
 one_wrong form (slot ∷ slots) word words h e = sym (first_wrong-word form slot slots word words e)
 
 -- the words of a text are what is looked at
-pub text_reason-words : (is_peer : Bool) (text word : List ℕ) (words : List (List ℕ)) → words_of text ≡ word ∷ words
-    → text_reason is_peer text ≡ named_reason is_peer word words (form_named word)
+pub text_reason-words : (has_peer is_peer : Bool) (text word : List ℕ) (words : List (List ℕ)) → words_of text ≡ word ∷ words
+    → text_reason has_peer is_peer text ≡ named_reason has_peer is_peer word words (form_named word)
 unfolding text_reason
-text_reason-words is_peer text word words e = rw e refl
+text_reason-words has_peer is_peer text word words e = rw e refl

@@ -6,7 +6,7 @@ use Rattle.script_reasons.specs.declared.forms.Slot.{Slot}
 use Rattle.script_reasons.specs.declared.forms.Slot.TheVariants as slot
 use Rattle.script_reasons.specs.declared.forms.Form.{Form}
 use Rattle.script_reasons.specs.declared.forms.Form.TheVariants as form
-use Rattle.script_reasons.specs.Words.{is_number_below, is_octets, is_timer, is_habit, is_count}
+use Rattle.script_reasons.specs.Words.{is_number_below, is_octets, is_timer, is_rate, is_habit, is_count}
 
 -- a word may stand in a slot
 abbrev pub fits : Slot → List ℕ → Bool
@@ -16,12 +16,14 @@ fits slot.Trx word = is_number_below 256 word
 fits slot.Timeslot word = is_some (timeslot_of word)
 fits slot.Octets word = is_octets word
 fits slot.Timer word = is_timer word
+fits slot.Rate word = is_rate word
 fits slot.Habit word = is_habit word
 fits slot.Count word = is_count word
 
 -- the first word of a line of this form
 abbrev pub keyword : Form → List ℕ
 keyword form.Open = codes "open"
+keyword form.Seize = codes "seize"
 keyword form.Handover = codes "handover"
 keyword form.Undo = codes "undo"
 keyword form.Clear = codes "clear"
@@ -39,7 +41,7 @@ keyword form.HangUp = codes "hangup"
 
 -- the forms of lines of an operator, of a timer and of messages
 abbrev pub input_forms : List Form
-input_forms = form.Open ∷ form.Handover ∷ form.Undo ∷ form.Clear ∷ form.Expire ∷ form.Abis ∷ form.A ∷ []
+input_forms = form.Open ∷ form.Seize ∷ form.Handover ∷ form.Undo ∷ form.Clear ∷ form.Expire ∷ form.Abis ∷ form.A ∷ []
 
 -- and of what is simulated
 abbrev pub simulated_forms : List Form
@@ -56,6 +58,7 @@ form_named word = option_or (form_among input_forms word) (form_among simulated_
 -- what the words behind the first are
 abbrev pub slots_of : Form → List Slot
 slots_of form.Open = slot.Call ∷ slot.Cell ∷ slot.Trx ∷ slot.Timeslot ∷ []
+slots_of form.Seize = slot.Call ∷ slot.Cell ∷ slot.Rate ∷ []
 slots_of form.Handover = slot.Call ∷ slot.Cell ∷ []
 slots_of form.Undo = slot.Call ∷ []
 slots_of form.Clear = slot.Call ∷ []
@@ -74,6 +77,7 @@ slots_of form.HangUp = slot.Call ∷ []
 -- a line of this form asks something of what is simulated
 abbrev pub needs_sim : Form → Bool
 needs_sim form.Open = false
+needs_sim form.Seize = false
 needs_sim form.Handover = false
 needs_sim form.Undo = false
 needs_sim form.Clear = false
@@ -92,6 +96,7 @@ needs_sim form.HangUp = true
 -- a line of this form attaches it
 abbrev pub is_sim : Form → Bool
 is_sim form.Open = false
+is_sim form.Seize = false
 is_sim form.Handover = false
 is_sim form.Undo = false
 is_sim form.Clear = false

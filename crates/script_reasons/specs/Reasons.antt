@@ -8,7 +8,7 @@ use Rattle.lab_script.specs.Sides.{is_for_peer, text_of}
 use Rattle.script_reasons.specs.declared.forms.Slot.{Slot}
 use Rattle.script_reasons.specs.declared.forms.Form.{Form}
 use Rattle.script_reasons.specs.declared.reasons.Fault.{Fault}
-use Rattle.script_reasons.specs.declared.reasons.Fault.TheVariants.{ByteOrderMark, NoPeer, Keyword, PeerKeyword, PeerSim, Word, Missing, Behind, NoSim}
+use Rattle.script_reasons.specs.declared.reasons.Fault.TheVariants.{ByteOrderMark, NoPeer, Keyword, LoneKeyword, PeerKeyword, PeerSim, Word, Missing, Behind, NoSim}
 use Rattle.script_reasons.specs.Words.{words_of}
 use Rattle.script_reasons.specs.Forms.{fits, form_named, slots_of, needs_sim, is_sim}
 
@@ -41,21 +41,21 @@ unfoldable pub form_reason : Bool → List (List ℕ) → Form → Option Wrong
 form_reason is_peer words form = if is_peer && is_sim form then Some (PeerSim, []) else first_wrong form (slots_of form) words
 
 -- what is wrong with a first word that no line has
-abbrev pub keyword_fault : Bool → Fault
-keyword_fault is_peer = if is_peer then PeerKeyword else Keyword
+abbrev pub keyword_fault : Bool → Bool → Fault
+keyword_fault has_peer is_peer = if is_peer then PeerKeyword else if has_peer then Keyword else LoneKeyword
 
 -- what is wrong with a text, by the form that its first word names
-abbrev pub named_reason : Bool → List ℕ → List (List ℕ) → Option Form → Option Wrong
-named_reason is_peer word words None = Some (keyword_fault is_peer, word)
-named_reason is_peer word words (Some form) = form_reason is_peer words form
+abbrev pub named_reason : Bool → Bool → List ℕ → List (List ℕ) → Option Form → Option Wrong
+named_reason has_peer is_peer word words None = Some (keyword_fault has_peer is_peer, word)
+named_reason has_peer is_peer word words (Some form) = form_reason is_peer words form
 
 -- and by its words, of which there is one at least
-abbrev pub words_reason : Bool → List (List ℕ) → Option Wrong
-words_reason is_peer [] = None
-words_reason is_peer (word ∷ words) = named_reason is_peer word words (form_named word)
+abbrev pub words_reason : Bool → Bool → List (List ℕ) → Option Wrong
+words_reason has_peer is_peer [] = None
+words_reason has_peer is_peer (word ∷ words) = named_reason has_peer is_peer word words (form_named word)
 
-unfoldable pub text_reason : Bool → List ℕ → Option Wrong
-text_reason is_peer text = words_reason is_peer (words_of text)
+unfoldable pub text_reason : Bool → Bool → List ℕ → Option Wrong
+text_reason has_peer is_peer text = words_reason has_peer is_peer (words_of text)
 
 -- a comment or a blank line
 abbrev pub is_passed : List ℕ → Bool
@@ -70,7 +70,7 @@ is_marked line = starts_with nat_eq line byte_order_mark
 
 -- what is wrong with a line that isn't passed over
 unfoldable pub side_reason : Bool → List ℕ → Option Wrong
-side_reason has_peer line = if is_for_peer line && not has_peer then Some (NoPeer, []) else text_reason (is_for_peer line) (text_of line)
+side_reason has_peer line = if is_for_peer line && not has_peer then Some (NoPeer, []) else text_reason has_peer (is_for_peer line) (text_of line)
 
 -- what is wrong with a line
 unfoldable pub line_reason : Bool → List ℕ → Option Wrong

@@ -27,5 +27,8 @@ is_among names text = list_any (λ name. bytes_eq text name) names
 abbrev pub is_timer : List ℕ → Bool
 is_timer text = is_among (codes "T3103" ∷ codes "T7" ∷ codes "T8" ∷ []) text
 
+abbrev pub is_rate : List ℕ → Bool
+is_rate text = is_among (codes "full" ∷ codes "half" ∷ []) text
+
 abbrev pub is_habit : List ℕ → Bool
 is_habit text = is_among (codes "arrive" ∷ codes "return" ∷ codes "vanish" ∷ []) text

@@ -2,7 +2,7 @@
 ghost use Rattle.std.specs.Prelude.{◌≡◌, Some};
 ghost use Rattle.script_reasons.specs.Forms as said;
 
-use crate::words::{is_count, is_habit, is_number_below, is_octets, is_timer};
+use crate::words::{is_count, is_habit, is_number_below, is_octets, is_rate, is_timer};
 use lab_script::script::is_timeslot;
 
 /// What a word of a line is.
@@ -20,6 +20,8 @@ pub enum Slot {
     Octets,
     /// The name of a timer.
     Timer,
+    /// The name of a rate.
+    Rate,
     /// What mobiles on a channel do.
     Habit,
     /// A number of octets, 1 to 255.
@@ -37,6 +39,7 @@ impl Slot {
             Slot::Timeslot => is_timeslot(word),
             Slot::Octets => is_octets(word),
             Slot::Timer => is_timer(word),
+            Slot::Rate => is_rate(word),
             Slot::Habit => is_habit(word),
             Slot::Count => is_count(word),
         }
@@ -47,6 +50,7 @@ impl Slot {
 #[derive(Clone, Copy, Debug, PartialEq, Eq)]
 pub enum Form {
     Open,
+    Seize,
     Handover,
     Undo,
     Clear,
@@ -69,6 +73,7 @@ fn input_form(keyword: &str) -> Option<Form>
 {
     match keyword {
         "open" => Some(Form::Open),
+        "seize" => Some(Form::Seize),
         "handover" => Some(Form::Handover),
         "undo" => Some(Form::Undo),
         "clear" => Some(Form::Clear),
@@ -116,6 +121,7 @@ impl Form {
     {
         match self {
             Form::Open => "open",
+            Form::Seize => "seize",
             Form::Handover => "handover",
             Form::Undo => "undo",
             Form::Clear => "clear",
@@ -139,6 +145,7 @@ impl Form {
     {
         match self {
             Form::Open => &[Slot::Call, Slot::Cell, Slot::Trx, Slot::Timeslot],
+            Form::Seize => &[Slot::Call, Slot::Cell, Slot::Rate],
             Form::Handover => &[Slot::Call, Slot::Cell],
             Form::Undo | Form::Clear | Form::HangUp => &[Slot::Call],
             Form::Expire => &[Slot::Call, Slot::Timer],
@@ -166,6 +173,7 @@ impl Form {
             | Form::Cut
             | Form::HangUp => true,
             Form::Open
+            | Form::Seize
             | Form::Handover
             | Form::Undo
             | Form::Clear
@@ -183,6 +191,7 @@ impl Form {
         match self {
             Form::Sim => true,
             Form::Open
+            | Form::Seize
             | Form::Handover
             | Form::Undo
             | Form::Clear

@@ -15,8 +15,10 @@ pub enum Fault {
     ByteOrderMark,
     /// The line is for the second controller, and there is none.
     NoPeer,
-    /// No line begins with the word.
+    /// No line begins with the word, where there is a second controller.
     Keyword,
+    /// The same where there is none.
+    LoneKeyword,
     /// No line of the second controller begins with it, behind `2: `.
     PeerKeyword,
     /// The line attaches what is simulated, which is for both controllers, and begins with `2: `.
@@ -94,26 +96,26 @@ fn form_reason<'a>(is_peer: bool, form: Form, rest: Option<&'a str>) -> Option<R
 }
 
 /// What is wrong with a first word that no line has.
-fn keyword_fault(is_peer: bool) -> Fault
-    ensures { result ≡ said.keyword_fault is_peer }
+fn keyword_fault(has_peer: bool, is_peer: bool) -> Fault
+    ensures { result ≡ said.keyword_fault has_peer is_peer }
 {
-    if is_peer {
-        Fault::PeerKeyword
-    } else {
-        Fault::Keyword
+    match (is_peer, has_peer) {
+        (true, _) => Fault::PeerKeyword,
+        (false, true) => Fault::Keyword,
+        (false, false) => Fault::LoneKeyword,
     }
 }
 
 /// What is wrong with what a line says to its controller.
-fn text_reason(is_peer: bool, text: &str) -> Option<Reason<'_>>
+fn text_reason(has_peer: bool, is_peer: bool, text: &str) -> Option<Reason<'_>>
     ensures { option_map (λ reason. (reason.fault, reason.found.now)) result ≡
-        said.text_reason is_peer text.now }
+        said.text_reason has_peer is_peer text.now }
 {
     let (found, rest) = cut_word(text);
     match form_named(found) {
         Some(form) => form_reason(is_peer, form, rest),
         None => {
-            let fault = keyword_fault(is_peer);
+            let fault = keyword_fault(has_peer, is_peer);
             Some(Reason { fault, found })
         }
     }
@@ -144,7 +146,7 @@ fn side_reason(line: &str, has_peer: bool) -> Option<Reason<'_>>
     if is_peer && !has_peer {
         Some(without_word(Fault::NoPeer))
     } else {
-        text_reason(is_peer, text)
+        text_reason(has_peer, is_peer, text)
     }
 }
 

@@ -41,6 +41,7 @@ impl Slot {
             Slot::Timeslot => "TN",
             Slot::Octets => "HEX",
             Slot::Timer => "TIMER",
+            Slot::Rate => "RATE",
             Slot::Habit => "HABIT",
             Slot::Count => "N",
         }
@@ -54,6 +55,7 @@ impl Slot {
             Slot::Timeslot => "0 to 7, with /0 or /1 behind it for half rate",
             Slot::Octets => "one octet or more, each in two hexadecimal digits",
             Slot::Timer => "T3103, T7 or T8",
+            Slot::Rate => "full or half",
             Slot::Habit => "arrive, return or vanish",
             Slot::Count => "1 to 255",
         }
@@ -71,7 +73,7 @@ impl fmt::Display for Form {
 }
 
 /// What may begin a line that gives a controller something.
-const INPUTS: &str = "open, handover, undo, clear, expire, abis, a";
+const INPUTS: &str = "open, seize, handover, undo, clear, expire, abis, a";
 
 /// And one that asks something of what is simulated.
 const SETTINGS: &str = "refuse, hold, let, mobile, double, cut or hangup";
@@ -96,6 +98,10 @@ impl fmt::Display for Reason<'_> {
             Fault::Keyword => write!(
                 f,
                 "a line begins with {INPUTS}, sim, {SETTINGS}, with 2: and a blank, or with #, found {more}"
+            ),
+            Fault::LoneKeyword => write!(
+                f,
+                "a line begins with {INPUTS}, sim, {SETTINGS}, or with #, found {more}"
             ),
             Fault::PeerKeyword => {
                 write!(f, "behind 2: stands {INPUTS}, {SETTINGS}, found {found}")

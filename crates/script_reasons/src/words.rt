@@ -72,6 +72,13 @@ pub(crate) fn is_timer(text: &str) -> bool
     matches!(text, "T3103" | "T7" | "T8")
 }
 
+/// Whether a text is the name of a rate.
+pub(crate) fn is_rate(text: &str) -> bool
+    ensures { result ≡ said.is_rate text.now }
+{
+    matches!(text, "full" | "half")
+}
+
 /// Whether a text is the name of a habit.
 pub(crate) fn is_habit(text: &str) -> bool
     ensures { result ≡ said.is_habit text.now }

@@ -76,10 +76,24 @@ impl fmt::Display for LineText {
     fn fmt<W: fmt::Write>(&self, f: &mut fmt::Formatter<W>) -> fmt::Result {
         match self.0 {
             Line::Open { call, chan } => write!(f, "open {call} {}", ChannelWords(chan)),
+            Line::Seize { call, cell, rate } => write!(f, "seize {call} {cell} {}", RateText(rate)),
             Line::Handover { call, cell } => write!(f, "handover {call} {cell}"),
             Line::Undo { call } => write!(f, "undo {call}"),
             Line::Clear { call } => write!(f, "clear {call}"),
         }
+    }
+}
+
+/// The name of a rate in a line of a script.
+#[derive(Clone, Copy)]
+struct RateText(Rate);
+
+impl fmt::Display for RateText {
+    fn fmt<W: fmt::Write>(&self, f: &mut fmt::Formatter<W>) -> fmt::Result {
+        f.write_str(match self.0 {
+            Rate::Full => "full",
+            Rate::Half => "half",
+        })
     }
 }
 

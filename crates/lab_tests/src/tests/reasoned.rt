@@ -7,6 +7,7 @@ use std::test::Fail;
 /// What a line begins with: each first word of a line, with the mark of the second controller and without, and others.
 const FRONTS: &[&str] = &[
     "open",
+    "seize",
     "handover",
     "undo",
     "clear",
@@ -22,6 +23,7 @@ const FRONTS: &[&str] = &[
     "cut",
     "hangup",
     "2: open",
+    "2: seize",
     "2: handover",
     "2: undo",
     "2: clear",
@@ -106,6 +108,9 @@ const RESTS: &[&str] = &[
     " 1 T9",
     " 1 t7",
     " 1 T7 ",
+    " 1 0 full",
+    " 1 256 half",
+    " 1 0 Full",
     " 1 0822",
     " 1 082",
     " 1 082g",

@@ -98,6 +98,134 @@ end channels=0 calls=0 references=0 timers=0
 ",
 );
 
+/// A handover whose timer runs out behind the detection, and once more.
+const RUNS_OUT: (&str, &str) = (
+    "open 1 0 0 3
+abis 0 0 0822010b081234
+handover 1 1
+abis 1 1 0822010b080000
+abis 1 1 0827010b1102
+expire 1 T3103
+expire 1 T3103
+",
+    "in open 1 0 0 3
+event open 1 0/0/3 -> done
+out abis 0 0 0821010b0300060400010801
+in abis 0 0 0822010b081234
+event confirm 0/0/3 -> owned 1
+event look 1 -> record 0/0/3 on
+in handover 1 1
+event look 1 -> record 0/0/3 on
+event take 1 internal 1/1/3 -> done
+event reserve 1 0 -> done
+event activate 1 -> done
+out abis 1 1 0821010b03020604000108010900
+in abis 1 1 0822010b080000
+event confirm 1/1/3 -> owned 1
+event look 1 -> record 0/0/3 on internal confirmed 1/1/3 0
+event command 1 -> done
+out abis 0 0 0301010b02000b0009062bd5670ba36b0005
+in abis 1 1 0827010b1102
+event detect 1/1/3 -> owned 1
+event look 1 -> record 0/0/3 on internal detected 1/1/3 0
+in expire 1 T3103
+event undo 1 t3103 -> record 0/0/3 on internal detected 1/1/3 0
+out abis 1 1 082e010b
+out a 1 000422040100
+in expire 1 T3103
+event undo 1 t3103 -> refused 9
+end channels=2 calls=1 references=0 timers=0
+",
+);
+
+/// A call comes from another controller, to the end.
+const COMES: (&str, &str) = (
+    "a 9 0019100b030108010a01011d330505010017006605050100170065
+abis 1 1 0822010b080000
+abis 1 1 0827010b1102
+abis 1 1 0302010b02000b0003062c00
+",
+    "in a 9 0019100b030108010a01011d330505010017006605050100170065
+event look 9 -> refused 1
+event take 9 incoming 1/1/3 -> done
+event reserve 9 0 -> done
+event activate 9 -> done
+out abis 1 1 0821010b03020604000108010900
+in abis 1 1 0822010b080000
+event confirm 1/1/3 -> owned 9
+event look 9 -> record - - incoming confirmed 1/1/3 0
+event command 9 -> done
+out a 9 000c121709062bd5670ba36b0005
+in abis 1 1 0827010b1102
+event detect 1/1/3 -> owned 9
+event look 9 -> record - - incoming detected 1/1/3 0
+out a 9 00011b
+in abis 1 1 0302010b02000b0003062c00
+event owner 1/1/3 -> owned 9
+event look 9 -> record - - incoming detected 1/1/3 0
+event complete 9 -> done
+out a 9 0003141500
+end channels=1 calls=1 references=0 timers=0
+",
+);
+
+/// A call is sent to another controller, and its mobile comes back.
+const COMES_BACK: (&str, &str) = (
+    "open 1 0 0 3
+abis 0 0 0822010b081234
+handover 1 64
+a 1 000c131709062bd5670ba36b2a05
+abis 0 0 0302010b02000b0003062800
+",
+    "in open 1 0 0 3
+event open 1 0/0/3 -> done
+out abis 0 0 0821010b0300060400010801
+in abis 0 0 0822010b081234
+event confirm 0/0/3 -> owned 1
+event look 1 -> record 0/0/3 on
+in handover 1 64
+event look 1 -> record 0/0/3 on
+event require 1 -> done
+out a 1 000c1104010c1b1a050100170066
+in a 1 000c131709062bd5670ba36b2a05
+event look 1 -> record 0/0/3 on outgoing required - -
+event order 1 -> done
+out abis 0 0 0301010b02000b0009062bd5670ba36b2a05
+in abis 0 0 0302010b02000b0003062800
+event owner 0/0/3 -> owned 1
+event look 1 -> record 0/0/3 on outgoing ordered - -
+event undo 1 asked -> record 0/0/3 on outgoing ordered - -
+out a 1 00061604010a1500
+end channels=1 calls=1 references=0 timers=0
+",
+);
+
+/// The centre ends a call, and once more.
+const ENDED: (&str, &str) = (
+    "open 1 0 0 3
+abis 0 0 0822010b081234
+a 1 000420040109
+a 1 000420040109
+",
+    "in open 1 0 0 3
+event open 1 0/0/3 -> done
+out abis 0 0 0821010b0300060400010801
+in abis 0 0 0822010b081234
+event confirm 0/0/3 -> owned 1
+event look 1 -> record 0/0/3 on
+in a 1 000420040109
+event look 1 -> record 0/0/3 on
+event clear 1 -> done
+out abis 0 0 0301010b02000b0003060d00
+out abis 0 0 082e010b
+out a 1 000121
+in a 1 000420040109
+event look 1 -> refused 1
+out a 1 000121
+end channels=1 calls=0 references=0 timers=0
+",
+);
+
 /// A call moves to the other controller, with simulated stations and a simulated switching centre.
 const MOVES: (&str, &str) = (
     "sim\nopen 1 0 0 3\nhandover 1 64\n",
@@ -153,6 +281,10 @@ const RUNS: &[(Option<&str>, (&str, &str))] = &[
     (None, HANDOVER),
     (None, TURNED_AWAY),
     (None, UNREADABLE),
+    (None, RUNS_OUT),
+    (None, COMES),
+    (None, COMES_BACK),
+    (None, ENDED),
     (Some(PEER), MOVES),
 ];
 

@@ -2,7 +2,7 @@
 use super::{Fail, Global, RefusingHeap, equals_at, holds_at};
 use attempt_journal::Timer;
 use bts_model::{Act, Habit, Setting, Sub};
-use channel_fsm::ChanId;
+use channel_fsm::{ChanId, Rate};
 use ho_procedure::exchange::{Inbound, Line};
 use lab_script::script::{
     Given, Item, ScriptFault, Side, first_unreadable, is_octets, read_script,
@@ -113,7 +113,9 @@ cut 255 254 7/0 255
 2: cut 255 254 7/1 001
 2: hangup 9
 open 3 0 1 07/0
-open 4 0 1 0/1";
+open 4 0 1 0/1
+seize 5 06 full
+2: seize 6 0 half";
 
 /// What they give, and for which controller.
 const ITEMS: &[(Side, Gives<'static>)] = &[
@@ -163,6 +165,22 @@ const ITEMS: &[(Side, Gives<'static>)] = &[
         Operator(Line::Open {
             call: 4,
             chan: HALF_1,
+        }),
+    ),
+    (
+        Side::First,
+        Operator(Line::Seize {
+            call: 5,
+            cell: 6,
+            rate: Rate::Full,
+        }),
+    ),
+    (
+        Side::Peer,
+        Operator(Line::Seize {
+            call: 6,
+            cell: 0,
+            rate: Rate::Half,
         }),
     ),
 ];

@@ -7,7 +7,7 @@ use std::process::Abort;
 
 /// What a line begins with.
 const WORDS: &str =
-    "open, handover, undo, clear, expire, abis, a, sim, refuse, hold, let, mobile, double, cut or hangup";
+    "open, seize, handover, undo, clear, expire, abis, a, sim, refuse, hold, let, mobile, double, cut or hangup";
 
 /// Lines that can't be read, with a second controller, and why.
 const UNREADABLE: &[(&str, &str)] = &[
@@ -72,11 +72,11 @@ const UNREADABLE: &[(&str, &str)] = &[
     ("sim ", "nothing stands behind sim, found a blank"),
     (
         "2: # a comment",
-        "behind 2: stands open, handover, undo, clear, expire, abis, a, refuse, hold, let, mobile, double, cut or hangup, found #",
+        "behind 2: stands open, seize, handover, undo, clear, expire, abis, a, refuse, hold, let, mobile, double, cut or hangup, found #",
     ),
     (
         "2: ",
-        "behind 2: stands open, handover, undo, clear, expire, abis, a, refuse, hold, let, mobile, double, cut or hangup, found two blanks, or one at the end",
+        "behind 2: stands open, seize, handover, undo, clear, expire, abis, a, refuse, hold, let, mobile, double, cut or hangup, found two blanks, or one at the end",
     ),
     (
         "2: sim 1",
@@ -135,6 +135,12 @@ const SCRIPTS: &[(&str, usize, bool, &str)] = &[
         "TN is 0 to 7, with /0 or /1 behind it for half rate, found 8",
     ),
     (
+        "undo 1\nundu 1",
+        2,
+        false,
+        "a line begins with open, seize, handover, undo, clear, expire, abis, a, sim, refuse, hold, let, mobile, double, cut or hangup, or with #, found undu",
+    ),
+    (
         "undo 1\n2: undo 1",
         2,
         false,
@@ -176,6 +182,7 @@ fn lines_of_scripts(rt: HostRuntime) -> Result<(), Fail> {
 const READ: &str = "
 # 2: open
 open 0001 00 000 03
+seize 2 255 full
 handover 2 255
 undo 0
 clear 65535
@@ -189,6 +196,7 @@ let 0 0 3
 mobile 0 0 3 arrive
 hangup 1
 2: open 1 0 0 3
+2: seize 1 0 half
 2: hangup 1";
 
 #[test]

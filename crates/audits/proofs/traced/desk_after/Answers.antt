@@ -1,6 +1,6 @@
 use Rattle.std.proofs.Common.{◌++◌, ◌∷◌, [], ap, get_or, sym, ◌∙◌}
 use Rattle.std.proofs.lemmas.List.{take_more}
-use Rattle.channel_fsm.specs.declared.Sub.TheVariants.{Full}
+use Rattle.timeslots.specs.declared.Sub.TheVariants.{Full}
 use Rattle.radio_book.specs.declared.event.Event.TheVariants.{Open}
 use Rattle.audits.proofs.traced.desk_after.Goals as goal
 

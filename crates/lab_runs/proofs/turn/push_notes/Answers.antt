@@ -1,5 +1,5 @@
 use Rattle.std.proofs.Common.{ap, ◌∙◌}
-use Rattle.channel_fsm.specs.declared.Rate.TheVariants.{Full}
+use Rattle.timeslots.specs.declared.Rate.TheVariants.{Full}
 use Rattle.lab_runs.specs.declared.noting.Note.{Note}
 use Rattle.lab_runs.proofs.StepFacts.{noted_told, noted_passed}
 use Rattle.lab_runs.proofs.turn.push_notes.Goals as goal

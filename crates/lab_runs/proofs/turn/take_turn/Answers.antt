@@ -24,7 +24,7 @@ returns-in-Ok-clause-turn g c =
     (subst (λ (v : NotingState). All (IsTrueNote v.desk) notes) view c.notes_from.ensures.each)
     (c.in-Ok.ensures.steps ∙ ap (λ (d : DeskState). with_notes c.len-first.result notes (drop c.len-first.result d.history)) desk) in
     record {
-      answers = subst (λ (input : Inbound g.row.A.Denot). Answers s input c.in_ok-answer.answer s') c.in_ok-given.ensures c.in_ok-answer.ensures.answers;
+      answers = subst (λ (input : Inbound g.row.A.Denot). Answers s input c.in_ok-answer.answer s') c.in_ok-given.ensures.same c.in_ok-answer.ensures.answers;
       asked = found.asked;
       none_free = found.none_free;
       noted = found.noted;
