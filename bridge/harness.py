@@ -1,16 +1,26 @@
 """A bridge that runs, for the scripts that try it: what it prints is waited for, line by line."""
+import contextlib
 import os
 import pathlib
 import re
 import shutil
+import socket
 import subprocess
 import threading
 
-from station import TestStation
+import rsl
+from station import LIMIT, TestStation
 
 FOLDER = pathlib.Path(__file__).resolve().parent
-# How many seconds anything may take.
-LIMIT = 60
+# How many seconds a machine that is slow and busy may take for what has to be done before a timer runs out.
+SLOW = 12
+# Timers that are no matter of a check don't run out.
+PATIENT = {name: 120 for name in ("answer", "patience", "t3103", "t7", "t8")}
+# The site of the checks, and its stations.
+SITE = FOLDER.parent / "examples" / "two_cells.toml"
+FIRST, SECOND = "6969/0/0", "6970/0/1"
+# Cell 0 has the channel 0/0/3, whose number on Abis is 0B, and cell 1 the channel 1/1/3.
+CHANNEL = 0x0B
 
 
 def runnable(program, room):
@@ -26,6 +36,10 @@ class Unmet(Exception):
     """Something didn't come."""
 
 
+class LeftOut(Exception):
+    """What a check needs isn't to be had here."""
+
+
 class Lines:
     """The lines of a file, as they come."""
 
@@ -36,10 +50,12 @@ class Lines:
         self.thread.start()
 
     def read(self, file):
-        for line in file:
-            with self.changed:
-                self.lines.append(line.rstrip("\n"))
-                self.changed.notify_all()
+        # a socket may be closed before all is read
+        with contextlib.suppress(ConnectionError):
+            for line in file:
+                with self.changed:
+                    self.lines.append(line.rstrip("\n"))
+                    self.changed.notify_all()
 
     def expect(self, pattern, seconds=LIMIT):
         """Waits for a line that a pattern describes, behind those that were waited for before; the match."""
@@ -66,7 +82,10 @@ class Bridge:
     """A bridge that runs, with its controller."""
 
     def __init__(self, core, room, options, stations):
-        words = [FOLDER / "abis", *options, *stations, "--", *core]
+        self.run([FOLDER / "abis", *options, *stations, "--", *core], room)
+
+    def run(self, words, room):
+        """Starts it."""
         self.process = subprocess.Popen(
             [str(word) for word in words],
             cwd=room,
@@ -115,8 +134,47 @@ class Bridge:
             self.process.kill()
             self.process.wait()
 
+    def last_words(self):
+        """What it said last."""
+        return "\n    ".join(["  it said last:", *self.said.lines[-12:]])
+
+
+class Asker:
+    """An operator at the control socket of a bridge."""
+
+    def __init__(self, path):
+        self.socket = socket.socket(socket.AF_UNIX)
+        self.socket.connect(str(path))
+        self.lines = Lines(self.socket.makefile(errors="replace"))
+
+    def ask(self, text):
+        """Gives octets."""
+        self.socket.sendall(text.encode())
+
+    def expect(self, *patterns):
+        """Waits for lines."""
+        for pattern in patterns:
+            self.lines.expect(pattern)
+
+    def leave(self):
+        """Asks nothing more, and waits for the end of the answers; all lines that came."""
+        self.socket.shutdown(socket.SHUT_WR)
+        self.lines.thread.join(LIMIT)
+        self.socket.close()
+        return self.lines.lines
+
+
+def measured(what, seconds, how):
+    """Says how long something took; it hangs on the machine, and so decides nothing."""
+    print(f"bridge/check: {what} {seconds:.2f} seconds {how}", flush=True)
+
 
 def must(holds, what):
     """Fails where something doesn't hold."""
     if not holds:
         raise Unmet(what)
+
+
+def is_kind(message_type, channel=CHANNEL):
+    """Whether a message that came is of a type about a channel."""
+    return lambda _stream, message: rsl.about_channel(message) == (message_type, channel)

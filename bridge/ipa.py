@@ -46,18 +46,29 @@ class Frames:
         self.octets = bytearray()
 
     def add(self, octets):
-        """Adds octets; the frames that are whole now, each as its stream and its message."""
+        """Adds octets."""
         self.octets += octets
-        frames, at = [], 0
-        while len(self.octets) - at >= 3:
-            end = at + 3 + int.from_bytes(self.octets[at : at + 2], "big")
-            if len(self.octets) < end:
-                break
-            frames.append((self.octets[at + 2], bytes(self.octets[at + 3 : end])))
-            at = end
-        del self.octets[:at]
-        return frames
+
+    def length(self):
+        """How many octets the first frame has; None where it isn't whole."""
+        if len(self.octets) < 3:
+            return None
+        length = 3 + int.from_bytes(self.octets[:2], "big")
+        return length if len(self.octets) >= length else None
+
+    def next(self):
+        """Takes out the first frame, as its stream and its message; None where it isn't whole."""
+        length = self.length()
+        if length is None:
+            return None
+        stream, message = self.octets[2], bytes(self.octets[3:length])
+        del self.octets[:length]
+        return stream, message
+
+    def has_whole(self):
+        """Whether there is a frame that is whole."""
+        return self.length() is not None
 
     def is_torn(self):
-        """Whether the last frame isn't whole yet."""
-        return bool(self.octets)
+        """Whether a frame has begun that isn't whole."""
+        return bool(self.octets) and not self.has_whole()

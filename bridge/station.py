@@ -6,20 +6,28 @@ import time
 import ipa
 import rsl
 
+# How many seconds anything may take in a check.
+LIMIT = 240
+
 
 class TestStation:
     """One TRX. What is sent to it is kept, and waited for by `await_message`."""
 
-    def __init__(self, port, unit, trx=0):
-        """`unit` is what it says it is; where that is None, it says nothing."""
+    def __init__(self, port, unit, trx=0, source="127.0.0.1"):
+        """`unit` is what it says it is; where that is None, it says nothing. It comes from the address `source`."""
         self.unit, self.trx = unit, trx
         # types of messages that aren't answered
         self.unanswered = set()
+        # where it has speech: of each channel at a port of its own, counted from here
+        self.ports = 0x4000
+        self.answers_pings = True
         self.came = []
         self.is_there = True
         self.known = threading.Event()
         self.changed = threading.Condition()
-        self.socket = socket.create_connection(("127.0.0.1", port), 10)
+        # frames that threads send at once don't mix
+        self.sending = threading.Lock()
+        self.socket = socket.create_connection(("127.0.0.1", port), 60, (source, 0))
         self.socket.settimeout(None)
         threading.Thread(target=self.listen, daemon=True).start()
 
@@ -28,8 +36,9 @@ class TestStation:
         frames = ipa.Frames()
         try:
             while octets := self.socket.recv(1 << 16):
-                for stream, message in frames.add(octets):
-                    self.take(stream, message)
+                frames.add(octets)
+                while frame := frames.next():
+                    self.take(*frame)
         except OSError:
             pass
         with self.changed:
@@ -43,16 +52,26 @@ class TestStation:
             self.frame(ipa.OWN, ipa.IDENTITY + (len(text) + 1).to_bytes(2, "big") + bytes([ipa.UNIT]) + text)
         elif stream == ipa.OWN and message[:1] == ipa.ACKNOWLEDGEMENT:
             self.known.set()
+        elif stream == ipa.OWN and message[:1] == ipa.PING and self.answers_pings:
+            self.frame(ipa.OWN, ipa.PONG)
         with self.changed:
             self.came.append((stream, message))
             self.changed.notify_all()
         message_type, channel = rsl.about_channel(message) or (None, None)
+        self.take_speech(message)
         if message_type in self.unanswered:
             return
         if message_type == rsl.ACTIVATION:
             self.say(rsl.channel_message(rsl.ACTIVATION_ACK, channel, b"\x08\x00\x00"))
         elif message_type == rsl.RELEASE:
             self.say(rsl.channel_message(rsl.RELEASE_ACK, channel))
+
+    def take_speech(self, message):
+        """Answers what is asked about a channel's speech, as osmo-bts does: CRCX by 71, MDCX by 74, with a connection's number,
+        its address and its port."""
+        if message[:1] == b"\x7e" and message[1] in (0x70, 0x73) and message[1] not in self.unanswered:
+            local = f"f80000f57f000001f3{self.ports + 2 * message[3]:04x}"
+            self.say(bytes([0x7E, message[1] + 1]) + message[2:4] + bytes.fromhex(local))
 
     def frame(self, stream, message):
         """Sends a frame."""
@@ -64,17 +83,23 @@ class TestStation:
 
     def send(self, octets, piece=None):
         """Sends octets, in pieces of so many where that is asked for."""
-        for at in range(0, len(octets), piece or len(octets)):
-            self.socket.sendall(octets[at : at + (piece or len(octets))])
-            if piece:
-                time.sleep(0.002)
+        with self.sending:
+            for at in range(0, len(octets), piece or len(octets)):
+                self.socket.sendall(octets[at : at + (piece or len(octets))])
+                if piece:
+                    time.sleep(0.002)
 
-    def await_message(self, is_it, seconds=15):
-        """Waits for a message that was sent to it; whether one came, or what ended the waiting."""
+    def await_message(self, is_it, seconds=LIMIT, count=1):
+        """Waits for so many messages of a kind that were sent to it; whether they came."""
         with self.changed:
-            return self.changed.wait_for(lambda: any(is_it(stream, message) for stream, message in self.came), seconds)
+            return self.changed.wait_for(lambda: self.count(is_it) >= count, seconds)
 
-    def await_end(self, seconds=15):
+    def count(self, is_it):
+        """How many messages of a kind were sent to it."""
+        with self.changed:
+            return sum(is_it(stream, message) for stream, message in self.came)
+
+    def await_end(self, seconds=LIMIT):
         """Waits until the other side has closed the link; whether it has."""
         with self.changed:
             return self.changed.wait_for(lambda: not self.is_there, seconds)

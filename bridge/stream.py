@@ -1,9 +1,13 @@
 """What the bridge waits for: octets that come or can be written, and times. Nothing of it blocks the bridge."""
+import fcntl
+import functools
 import heapq
 import itertools
 import os
 import queue
 import selectors
+import struct
+import termios
 import threading
 import time
 
@@ -11,6 +15,10 @@ import time
 PIECE = 1 << 16
 # How many octets may wait to be written to one place.
 MOST_WAITING = 1 << 22
+# How many things that aren't to be done any more may wait beside as many as are.
+FEW = 64
+# How many octets a line may have.
+LONGEST_LINE = 1 << 17
 
 
 class Times:
@@ -21,11 +29,19 @@ class Times:
         self.current = {}
         self.numbers = itertools.count()
 
-    def set(self, name, seconds, action):
-        """Does something in so many seconds."""
+    def set(self, name, seconds, action, gate=None):
+        """Does something in so many seconds. Where there is a gate, that is given what is to be done then, and does it later;
+        until it has, it can still be forgotten."""
         number = next(self.numbers)
         self.current[name] = number
-        heapq.heappush(self.heap, (time.monotonic() + seconds, number, name, action))
+        heapq.heappush(self.heap, (time.monotonic() + seconds, number, name, action, gate))
+        if len(self.heap) > 2 * len(self.current) + FEW:
+            self.tidy()
+
+    def tidy(self):
+        """Drops what was forgotten or set again: much of that is to be done in many minutes, and all of it takes memory."""
+        self.heap = [it for it in self.heap if self.current.get(it[2]) == it[1]]
+        heapq.heapify(self.heap)
 
     def forget(self, name):
         """Doesn't do it."""
@@ -44,9 +60,39 @@ class Times:
     def run_due(self):
         """Does all that is due."""
         while self.seconds_left() == 0.0:
-            _, _, name, action = heapq.heappop(self.heap)
+            _, number, name, action, gate = heapq.heappop(self.heap)
+            if gate:
+                gate(functools.partial(self.do, name, number, action))
+            else:
+                self.do(name, number, action)
+
+    def do(self, name, number, action):
+        """Does something, unless it was forgotten or set again."""
+        if self.current.get(name) == number:
             del self.current[name]
             action()
+
+
+class Lines:
+    """The lines of a stream of octets."""
+
+    def __init__(self, take):
+        self.take = take
+        self.octets = bytearray()
+
+    def add(self, octets):
+        """Adds octets, and hands out the lines that are whole now."""
+        self.octets += octets
+        *lines, rest = self.octets.split(b"\n")
+        # more of a line isn't of use: nobody can read it either
+        self.octets = rest[:LONGEST_LINE]
+        for line in lines:
+            self.take(bytes(line))
+
+    def end(self):
+        """No more comes: the octets behind the last line feed, which are no line."""
+        rest, self.octets = bytes(self.octets), bytearray()
+        return rest
 
 
 class Stream:
@@ -60,14 +106,15 @@ class Stream:
         self.reads, self.writes = reads, writes
         self.heard, self.ended, self.unread = heard, ended, unread
         self.waiting = bytearray()
-        self.is_paused = False
+        # why nothing is read for a while
+        self.pauses = set()
         self.is_last = False
         self.watch()
 
     def watch(self):
         """Waits for what is of use now."""
         wanted = {}
-        if self.reads is not None and not self.is_paused:
+        if self.reads is not None and not self.pauses:
             wanted[self.reads] = selectors.EVENT_READ
         if self.writes is not None and self.waiting:
             wanted[self.writes] = wanted.get(self.writes, 0) | selectors.EVENT_WRITE
@@ -80,18 +127,24 @@ class Stream:
             elif known:
                 self.selector.unregister(it)
 
-    def pause(self, is_paused):
-        """Reads nothing for a while, or goes on."""
-        if self.is_paused != is_paused:
-            self.is_paused = is_paused
+    def pause(self, why, is_paused):
+        """Reads nothing for a while, or goes on where this was the last reason not to."""
+        if (why in self.pauses) != is_paused:
+            self.pauses ^= {why}
             self.watch()
 
     def ready(self, mask):
         """Reads or writes, where the selector says that this can be done."""
         if mask & selectors.EVENT_WRITE and self.writes is not None:
             self.flush()
-        if mask & selectors.EVENT_READ and self.reads is not None and not self.is_paused:
+        if mask & selectors.EVENT_READ and self.reads is not None and not self.pauses:
             self.read()
+
+    def readable(self):
+        """How many octets came that aren't read yet."""
+        if self.reads is None:
+            return 0
+        return struct.unpack("i", fcntl.ioctl(self.reads, termios.FIONREAD, bytes(4)))[0]
 
     def read(self):
         """Takes what came."""
@@ -165,17 +218,22 @@ class Writer:
     def __init__(self, number):
         self.number = number
         self.texts = queue.SimpleQueue()
-        self.waiting = 0
+        # how many octets were put there, and how many the thread has done with: each is changed by one thread alone
+        self.taken = self.done = 0
         self.left_out = 0
         self.thread = threading.Thread(target=self.write_all, daemon=True)
         self.thread.start()
 
+    def waiting(self):
+        """How many octets aren't written yet."""
+        return self.taken - self.done
+
     def put(self, octets):
         """Has octets written."""
-        if self.waiting > MOST_WAITING:
+        if self.waiting() > MOST_WAITING:
             self.left_out += 1
         else:
-            self.waiting += len(octets)
+            self.taken += len(octets)
             self.texts.put(octets)
 
     def write_all(self):
@@ -187,7 +245,7 @@ class Writer:
                     rest = rest[os.write(self.number, rest) :]
             except OSError:
                 pass
-            self.waiting -= len(octets)
+            self.done += len(octets)
 
     def finish(self, seconds):
         """Waits until all is written, but no longer than that."""

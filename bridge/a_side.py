@@ -1,0 +1,240 @@
+"""A: the switching centre's side of all calls (TS 48.008, 3.1). A connection is a call; what the controller says of it goes
+there, and what comes is given to the controller, but for what is between mobile and centre, which the controller doesn't
+read."""
+import bssmap
+from bssmap import Cause, Type
+from link_layer import LONGEST, MAIN_SAPI, SHORT_SAPI
+from outgoing import OutgoingCalls
+from rtp import codec_of
+from tell import say
+
+# Of a DLCI the bits that have the service access point (TS 48.006, 9.3.2).
+SAPI = 0x07
+
+
+class ASide:
+    """The centre, as the bridge knows it. `connections` is the end of SCCP, which tells what comes; `relay` has the
+    controller, the calls, and the air."""
+
+    def __init__(self, relay, times, seconds):
+        self.relay, self.times, self.seconds = relay, times, seconds
+        self.connections = None
+        self.outgoing = OutgoingCalls(relay, times, seconds)
+        # whether both sides have begun anew: nothing begins before that
+        self.is_there = False
+        self.is_up = False
+        self.counts = {"connections": 0, "handovers": 0, "resets": 0}
+
+    # The link
+
+    def up(self):
+        """The link is there: both sides begin anew (3.1.4.1)."""
+        say("A: the link is there")
+        self.is_up = True
+        self.reset()
+
+    def down(self):
+        """The link is lost: all calls end."""
+        say("A: the link is lost, and all calls end")
+        self.is_up = self.is_there = False
+        self.times.forget("t4")
+        self.times.forget("t13")
+        self.end_calls(Cause.EQUIPMENT_FAILURE)
+        self.connections.lost()
+
+    def heard(self, octets):
+        """A message of SCCP came."""
+        self.connections.heard(octets)
+
+    def reset(self):
+        """Says RESET until it is acknowledged."""
+        self.connections.unit_data(bssmap.reset())
+        self.times.set("t4", self.seconds["t4"], self.reset)
+
+    def end_calls(self, value):
+        """All calls end, those of operators too, and nobody is looked for."""
+        self.relay.paging.end_all()
+        for call in list(self.relay.talks.by_number.values()):
+            if call.connection:
+                connection, call.connection = call.connection, None
+                self.connections.release(connection)
+            self.clear(call, value)
+
+    # Messages without a connection
+
+    def unit_data(self, octets):
+        """A message of no connection came."""
+        kind = bssmap.kind_of(octets)
+        if kind == Type.RESET_ACKNOWLEDGE:
+            self.times.forget("t4")
+            self.look()
+        elif kind == Type.RESET:
+            say("A: the centre begins anew, and all calls end")
+            self.counts["resets"] += 1
+            self.is_there = False
+            self.end_calls(Cause.EQUIPMENT_FAILURE)
+            self.times.set("t13", self.seconds["t13"], self.acknowledge)
+        elif kind == Type.PAGING and self.is_there:
+            self.relay.paging.asked(octets)
+        else:
+            self.relay.count(f"of no connection: {octets[:3].hex() or 'empty'}")
+
+    def acknowledge(self):
+        """Acknowledges the centre's RESET."""
+        self.connections.unit_data(bssmap.message(Type.RESET_ACKNOWLEDGE))
+        self.look()
+
+    def look(self):
+        """Both sides have begun anew, where neither RESET awaits its acknowledgement."""
+        if self.times.is_set("t4") or self.times.is_set("t13"):
+            return
+        if not self.is_there:
+            say("A: the centre is there")
+        self.is_there = True
+
+    # Connections
+
+    def begin(self, call, cell, layer_3):
+        """A mobile made itself known: the centre is told of it. Whether there is a connection for that."""
+        codec = codec_of(self.relay.talks.serving(call).number)
+        connection = self.connections.connect(bssmap.complete_layer_3(self.relay.plmn, cell, layer_3, codec))
+        if connection is None:
+            return False
+        self.counts["connections"] += 1
+        connection.call, call.connection = call, connection
+        return True
+
+    def asked(self, connection, octets):
+        """The centre asks for a connection, as for a call that comes from another controller."""
+        connection.call = None
+        if not self.is_there or octets and bssmap.kind_of(octets) != Type.HANDOVER_REQUEST:
+            self.relay.count("a connection that the centre asked for is refused")
+            self.connections.refuse(connection)
+            return
+        self.connections.accept(connection)
+        if octets:
+            self.come(connection, octets)
+
+    def come(self, connection, octets):
+        """A call comes from another controller."""
+        if (call := self.relay.talks.begin()) is None:
+            self.connections.release(connection)
+            return
+        self.counts["handovers"] += 1
+        connection.call, call.connection = call, connection
+        self.relay.arrivals.requested(call, octets)
+
+    def confirmed(self, connection):
+        """The centre took a connection."""
+
+    def data(self, connection, octets):
+        """A message on a connection came."""
+        call = getattr(connection, "call", None)
+        if found := bssmap.dtap_in(octets):
+            self.data_for_mobile(call, *found)
+        elif (kind := bssmap.kind_of(octets)) is None:
+            self.relay.count(f"no message: {octets[:3].hex() or 'empty'}")
+        elif call is None and kind == Type.HANDOVER_REQUEST:
+            self.come(connection, octets)
+        elif call is None:
+            self.relay.count("a message on a connection without a call")
+            self.connections.release(connection)
+        elif kind == Type.HANDOVER_REQUEST:
+            self.relay.count("HANDOVER REQUEST on a connection that has a call")
+        elif kind == Type.ASSIGNMENT_REQUEST:
+            self.relay.assignments.requested(call, octets)
+        elif kind == Type.CIPHER_MODE_COMMAND:
+            self.relay.ciphering.commanded(call, octets)
+        elif kind == Type.CLASSMARK_REQUEST:
+            self.relay.air.tell(call, bssmap.CLASSMARK_ENQUIRY)
+        elif kind not in bssmap.TOLD and (kind not in bssmap.ANSWERS or self.outgoing.takes(call, Type(kind))):
+            call.is_clearing = call.is_clearing or kind == Type.CLEAR_COMMAND
+            self.give(call, octets)
+
+    def data_for_mobile(self, call, link, layer_3):
+        """A message for a mobile came."""
+        if call is None:
+            self.relay.count("DTAP on a connection without a call")
+        elif layer_3[0] & 0x0F == bssmap.RADIO_RESOURCES:
+            # these are the controller's: by one a mobile would leave its channel, of which the book wouldn't know
+            self.relay.count("DTAP of radio resources")
+        elif len(layer_3) > LONGEST:
+            self.relay.count("DTAP that is longer than the air carries")
+        elif link & SAPI == MAIN_SAPI:
+            self.relay.air.tell(call, layer_3)
+        elif link & SAPI == SHORT_SAPI:
+            self.relay.air.short.tell(call, layer_3)
+        else:
+            self.send(call, bssmap.sapi_reject(link, Cause.NOT_EQUIPPED))
+
+    def ended(self, connection, why):
+        """A connection has ended. The controller is told to clear its call, where that goes on."""
+        call = getattr(connection, "call", None)
+        if call is None or call.connection is not connection:
+            return
+        call.connection = None
+        if not call.is_over and not call.is_clearing:
+            say(f"A: {call}: its connection {why}")
+        self.clear(call, Cause.CALL_CONTROL)
+
+    def clear(self, call, value):
+        """Has the controller clear a call in the centre's place; one that is over already is forgotten."""
+        if call.is_over:
+            self.relay.forget(call)
+        elif not call.is_cut:
+            call.is_cut = call.is_clearing = True
+            self.relay.air.settle(call)
+            self.give(call, bssmap.clear_command(value))
+
+    # What the controller says
+
+    def give(self, call, octets):
+        """Gives the controller a message about a call."""
+        self.relay.give(b"a %d %s" % (call.number, octets.hex().encode()), "switching centre")
+
+    def hear(self, number, octets):
+        """The controller says something about a call. One without a connection has nobody to say it to: what would clear it
+        there clears it here."""
+        call, kind = self.relay.talks.by_number.get(number), bssmap.kind_of(octets)
+        if call is None:
+            return
+        if call.connection:
+            said = self.relay.arrivals.said(call, octets)
+            if said is not None and not self.outgoing.keeps(call, kind, said):
+                self.send(call, said)
+            self.relay.air.said(call)
+        elif kind == Type.CLEAR_REQUEST and call.request:
+            self.relay.air.drop(call)
+        elif kind == Type.CLEAR_COMPLETE:
+            self.relay.forget(call)
+
+    def send(self, call, octets):
+        """Says something to the centre about a call."""
+        if call.connection:
+            self.connections.data(call.connection, octets)
+
+    def ask_to_clear(self, call, value):
+        """A call can't go on: the centre is asked to clear it, again where it doesn't (lost.py)."""
+        if call.connection and not call.is_over and not call.is_clearing and not call.is_lost:
+            call.is_lost = True
+            request = bssmap.clear_request(value)
+            self.send(call, request)
+            if self.relay.talks.serving(call):
+                self.relay.lost.request(str(call.number), request)
+
+    def over(self, call, is_told):
+        """The book has ended a call. Where that wasn't the centre's wish, and the controller doesn't tell it, it is asked
+        to clear the call; where it doesn't release the connection in time, that is done here."""
+        if call.connection:
+            if not call.is_clearing and not is_told:
+                self.send(call, bssmap.clear_request(Cause.OPERATOR))
+            self.times.set(("clearing", call.number), self.seconds["clearing"], lambda: self.finish(call))
+        elif not call.is_cut:
+            self.relay.forget(call)
+
+    def finish(self, call):
+        """The centre doesn't release a connection whose call is over."""
+        connection, call.connection = call.connection, None
+        if connection:
+            self.connections.release(connection)
+        self.relay.forget(call)

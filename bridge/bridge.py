@@ -1,0 +1,304 @@
+"""Sockets, the controller, and the time: what joins a relay to the rest of the world."""
+import contextlib
+import os
+import select
+import selectors
+import signal
+import socket
+import stat
+import subprocess
+
+from links import Links
+from log import Log
+from operators import QUIET, Client, Operator
+from relay import Relay
+from stream import Lines, Stream, Times
+from tell import ERRORS, OUTPUT, say
+
+# How long the controller may take to end, in seconds.
+LAST = 30.0
+# For how long somebody may not read what is printed at the end, in seconds.
+UNREAD = 5.0
+
+
+class Bridge:
+    """Sockets, the controller, and the time."""
+
+    # what says where stations may come from
+    BIND = "--bind"
+
+    def __init__(self, words, make_relay=Relay):
+        """`words` are the settings: `stations`, `seconds`, `bind`, `port`, `log`, `control`, `messages`, and `core`, the
+        controller's command."""
+        self.words = words
+        self.selector = selectors.PollSelector()
+        self.times = Times()
+        self.relay = make_relay(words.stations, self.times, words.seconds)
+        self.relay.tells_messages = words.messages
+        self.sockets = {}
+        self.links = self.relay.links = Links(self.relay, self.close)
+        self.clients = set()
+        self.operator = None
+        self.listeners = []
+        self.control = None
+        self.core = None
+        self.is_ending = False
+
+    def start(self):
+        """Opens what is to be open, the controller last."""
+        words = self.words
+        if words.log:
+            self.relay.log = Log(words.log, self.times)
+        family = socket.AF_INET6 if ":" in words.bind else socket.AF_INET
+        listener = socket.create_server((words.bind, words.port), family=family)
+        self.listen(listener, self.accept)
+        if words.control:
+            self.listen(control_socket(words.control), self.accept_operator)
+            self.control = words.control
+        self.watch_signals()
+        self.start_core(words.core)
+        self.hear_operator()
+        only = f", for stations of this machine alone ({self.BIND})" if words.bind.startswith(("127.", "::1")) else ""
+        say(f"listens on {words.bind}, port {listener.getsockname()[1]}{only}")
+
+    def start_core(self, command):
+        """Starts the controller."""
+        pipe = subprocess.PIPE
+        self.core = subprocess.Popen(command, stdin=pipe, stdout=pipe, stderr=pipe, start_new_session=True)
+        files = (self.core.stdout, self.core.stdin, self.core.stderr)
+        reads, writes, errors = (os.dup(file.fileno()) for file in files)
+        for file, number in zip(files, (reads, writes, errors)):
+            file.close()
+            os.set_blocking(number, False)
+        lines = Lines(self.relay.hear)
+        self.relay.core = Stream(self.selector, reads, writes, lines.add, lambda: self.core_ended(lines), self.core_unread)
+        said = Lines(self.relay.hear_error)
+        self.errors = Stream(self.selector, errors, None, said.add, lambda: self.errors_ended(said))
+
+    def core_unread(self):
+        """The controller reads no more. What it still sends is handed on."""
+        self.relay.core.is_last = True
+        if not self.is_ending:
+            self.end("the controller reads no more")
+
+    def hear_operator(self):
+        """Takes the lines of standard input. That is left blocking, since others may have it too."""
+
+        def ended():
+            if rest := lines.end():
+                operator.refuse_torn(rest)
+            self.operator.leave()
+            if not self.control:
+                self.end("standard input has ended")
+
+        operator = Operator(self.relay, "operator at standard input")
+        lines = Lines(operator.take)
+        self.operator = Stream(self.selector, 0, None, lines.add, ended)
+
+    def listen(self, listener, accept):
+        """Waits for those who connect. Where the system has no room for one, it is asked again after a while."""
+        listener.setblocking(False)
+        self.listeners.append(listener)
+
+        def watch():
+            if listener in self.listeners:
+                self.selector.register(listener, selectors.EVENT_READ, take)
+
+        def take(_mask):
+            try:
+                accept(listener)
+            except BlockingIOError:
+                pass
+            except OSError as error:
+                say(f"nobody can connect now: {error}")
+                self.selector.unregister(listener)
+                self.times.set(("listener", listener), QUIET, watch)
+
+        watch()
+
+    def watch_signals(self):
+        """Ends where a signal says so, and at once where another does; HUP opens the log anew."""
+        ear, mouth = socket.socketpair()
+        ear.setblocking(False)
+        mouth.setblocking(False)
+        signal.set_wakeup_fd(mouth.fileno())
+        for number in (signal.SIGINT, signal.SIGTERM, signal.SIGHUP):
+            signal.signal(number, lambda _number, _frame: None)
+        self.signals = (ear, mouth)
+        self.selector.register(ear, selectors.EVENT_READ, lambda _mask: self.take_signal(ear.recv(1)[0]))
+
+    def take_signal(self, number):
+        """A signal came."""
+        if number != signal.SIGHUP:
+            self.end(f"signal {number}")
+        elif self.relay.log:
+            self.relay.log.open_anew()
+
+    def accept(self, listener):
+        """A station connects."""
+        connection, (address, port, *_) = listener.accept()
+        connection.setblocking(False)
+        connection.setsockopt(socket.IPPROTO_TCP, socket.TCP_NODELAY, 1)
+        watch_cable(connection, self.links.patience)
+        number = connection.fileno()
+        stream = Stream(self.selector, number, number)
+        self.sockets[stream] = connection
+        self.links.begin(stream, address, f"{address}:{port}")
+
+    def accept_operator(self, listener):
+        """An operator connects."""
+        connection, _ = listener.accept()
+        self.clients.add(Client(self, connection))
+
+    def close(self, link):
+        """Closes the socket of a link."""
+        link.stream.leave()
+        self.sockets.pop(link.stream).close()
+
+    def end(self, why):
+        """Ends the controller, and then all else. Asked for again, it kills the controller."""
+        if self.is_ending:
+            self.kill_core()
+            return
+        self.is_ending = True
+        say(f"ends: {why}")
+        while self.listeners:
+            listener = self.listeners.pop()
+            if listener in self.selector.get_map():
+                self.selector.unregister(listener)
+            listener.close()
+        if self.relay.core:
+            self.relay.core.finish()
+            self.times.set("end", LAST, self.kill)
+
+    def kill(self):
+        """Kills a controller that doesn't end."""
+        say(f"the controller doesn't end in {LAST:g} seconds, and is killed")
+        self.kill_core()
+
+    def kill_core(self):
+        """Kills the controller, and what it has begun."""
+        with contextlib.suppress(ProcessLookupError):
+            os.killpg(self.core.pid, signal.SIGKILL)
+
+    def status_of_core(self):
+        """The status of a controller that prints nothing more. It may have closed its output, and go on."""
+        try:
+            return self.core.wait(LAST)
+        except subprocess.TimeoutExpired:
+            self.kill()
+            return self.core.wait()
+
+    def core_ended(self, lines):
+        """The controller has ended."""
+        if rest := lines.end():
+            self.relay.hear(rest)
+        self.relay.core.leave()
+        self.relay.core = None
+        if not self.is_ending:
+            self.end("the controller has ended")
+
+    def errors_ended(self, lines):
+        """The controller says nothing more on standard error."""
+        if rest := lines.end():
+            self.relay.hear_error(rest)
+        self.errors.leave()
+
+    def pause(self, is_busy):
+        """Reads nothing for the controller while it is busy."""
+        self.links.pause(is_busy)
+        for client in self.clients:
+            client.stream.pause("busy", is_busy)
+        self.operator.pause("busy", is_busy)
+
+    def run(self):
+        """Does what comes, until the controller has ended; its status."""
+        while self.relay.core:
+            # what a link has left has its turn without delay
+            self.take_what_comes(0 if self.links.behind else self.times.seconds_left())
+            self.links.take_turns()
+            self.times.run_due()
+            self.pause(self.relay.is_busy())
+        self.relay.endings.finish()
+        for link in list(self.links.all):
+            link.close()
+        status = self.status_of_core()
+        while self.errors.reads is not None and select.select([self.errors.reads], [], [], 0)[0]:
+            self.errors.read()
+        self.relay.tell_all()
+        if self.relay.log:
+            self.relay.log.finish()
+        say(f"the controller ended with status {status}; lines that it couldn't read: {self.relay.unread}")
+        return status if status >= 0 else 1
+
+    def take_what_comes(self, seconds):
+        """Waits so long for something, and takes what comes: each socket once."""
+        for key, mask in self.selector.select(seconds):
+            known = self.selector.get_map().get(key.fd)
+            if known is None or known.data is not key.data:
+                # what was done before has closed it
+                continue
+            if isinstance(key.data, Stream):
+                key.data.ready(mask)
+            else:
+                key.data(mask)
+            if self.relay.is_busy():
+                self.pause(True)
+
+
+def watch_cable(connection, seconds):
+    """Has the system look whether the other side is still there: it gives up where octets aren't acknowledged for so long."""
+    connection.setsockopt(socket.SOL_SOCKET, socket.SO_KEEPALIVE, 1)
+    options = {"TCP_KEEPIDLE": seconds, "TCP_KEEPINTVL": seconds, "TCP_KEEPCNT": 1, "TCP_USER_TIMEOUT": seconds * 1000}
+    for option, value in options.items():
+        if hasattr(socket, option):
+            connection.setsockopt(socket.IPPROTO_TCP, getattr(socket, option), max(1, round(value)))
+
+
+def control_socket(path):
+    """A socket at this path for the user alone. One that nobody listens on any more is taken away."""
+    if os.path.lexists(path) and not stat.S_ISSOCK(os.lstat(path).st_mode):
+        raise OSError(f"{path!r}: is there, and is no socket")
+    probe = socket.socket(socket.AF_UNIX)
+    try:
+        probe.connect(path)
+        raise OSError(f"{path!r}: somebody listens there")
+    except ConnectionRefusedError:
+        os.unlink(path)
+    except FileNotFoundError:
+        pass
+    finally:
+        probe.close()
+    listener = socket.socket(socket.AF_UNIX)
+    mask = os.umask(0o077)
+    try:
+        listener.bind(path)
+    finally:
+        os.umask(mask)
+    listener.listen()
+    return listener
+
+
+def serve(make):
+    """Makes a bridge, and runs it to its end; its status."""
+    for number in (0, 1, 2):
+        # where one is closed, no socket is to get its number
+        if not os.path.exists(f"/dev/fd/{number}"):
+            os.open(os.devnull, os.O_RDWR)
+    bridge = None
+    try:
+        bridge = make()
+        bridge.start()
+        status = bridge.run()
+    except OSError as error:
+        say(f"can't begin: {error}")
+        status = 2
+    finally:
+        if bridge and bridge.control:
+            with contextlib.suppress(OSError):
+                os.unlink(bridge.control)
+    OUTPUT.finish(UNREAD)
+    if OUTPUT.left_out:
+        say(f"standard output wasn't read: {OUTPUT.left_out} lines are left out")
+    ERRORS.finish(UNREAD)
+    return status

@@ -1,0 +1,161 @@
+"""Transactions with a media gateway, over UDP (RFC 3435, 3.5): each has a number, and is said again under it until it is
+answered, or given up."""
+import random
+import selectors
+import socket
+import typing
+
+import mgcp
+from mgcp import Command, Verb
+from tell import Sayings
+
+# For how many seconds the number of a transaction that is over is remembered: longer than an answer may be under way (T-HIST).
+REMEMBERED = 30.0
+# How long a datagram may be, and how many are taken before others have their turn.
+LONGEST, MOST_AT_ONCE = 4096, 64
+
+
+class Asked(typing.NamedTuple):
+    """A transaction that is under way: what is asked, in octets too, and who is told the answer."""
+
+    command: Command
+    octets: bytes
+    told: object
+
+
+class Gateway:
+    """A gateway, as who asks it knows it."""
+
+    def __init__(self, selector, times, settings, seconds):
+        """`settings` has its address, port and domain; `seconds` how long it may take to answer (`gateway`), and how long it
+        is until it is asked again (`gateway-repeat`)."""
+        self.times, self.settings, self.seconds = times, settings, seconds
+        self.sayings = Sayings(times)
+        self.asked = {}
+        # transactions that are over: what was asked, and which connections of which endpoints were answered
+        self.over = {}
+        self.number = random.randrange(mgcp.MOST)
+        self.is_silent = False
+        self.counts = {"asked": 0, "asked again": 0, "not answered": 0, "refused": 0, "passed over": 0}
+        family = socket.AF_INET6 if ":" in settings.address else socket.AF_INET
+        self.socket = socket.socket(family, socket.SOCK_DGRAM)
+        self.socket.setblocking(False)
+        try:
+            self.socket.connect((settings.address, settings.port))
+        except OSError as error:
+            raise OSError(f"{self}: {error.strerror}") from error
+        selector.register(self.socket, selectors.EVENT_READ, lambda _mask: self.read())
+
+    def __str__(self):
+        return f"the media gateway at {self.settings.address}, port {self.settings.port}"
+
+    @property
+    def any_endpoint(self):
+        """The name that stands for an endpoint which the gateway chooses."""
+        return f"rtpbridge/*@{self.settings.domain}"
+
+    # What is asked
+
+    def ask(self, command, told):
+        """Asks something. `told` is given the answer, or None where none comes in time."""
+        self.number = self.number % mgcp.MOST + 1
+        number, octets = self.number, command.written(self.number)
+        self.asked[number] = Asked(command, octets, told)
+        self.counts["asked"] += 1
+        self.times.set(("gateway", number), self.seconds["gateway"], lambda: self.give_up(number))
+        self.send(number)
+
+    def send(self, number):
+        """Sends what is asked, and again after a while."""
+        try:
+            self.socket.send(self.asked[number].octets)
+        except OSError:
+            # nobody listens there now, or the system has no room: it is said again
+            pass
+        self.times.set(("gateway again", number), self.seconds["gateway-repeat"], lambda: self.send_again(number))
+
+    def send_again(self, number):
+        """It isn't answered yet."""
+        self.counts["asked again"] += 1
+        self.send(number)
+
+    def give_up(self, number):
+        """It isn't answered in time."""
+        self.counts["not answered"] += 1
+        if not self.is_silent:
+            self.say(f"doesn't answer in {self.seconds['gateway']:g} seconds")
+        self.is_silent = True
+        self.finish(number, None)
+
+    def finish(self, number, answer):
+        """A transaction is over."""
+        asked = self.asked.pop(number)
+        self.times.forget(("gateway", number))
+        self.times.forget(("gateway again", number))
+        self.over[number] = asked.command, {(answer.endpoint, answer.connection)} if answer else set()
+        self.times.set(("gateway over", number), REMEMBERED, lambda: self.over.pop(number, None))
+        asked.told(answer)
+
+    # What is answered
+
+    def read(self):
+        """Takes the datagrams that came."""
+        for _ in range(MOST_AT_ONCE):
+            try:
+                octets = self.socket.recv(LONGEST)
+            except OSError:
+                # nothing more came, or nobody listens there
+                return
+            try:
+                answers = mgcp.answers_in(octets)
+            except mgcp.Unreadable as why:
+                self.pass_over(str(why))
+                continue
+            for answer in answers:
+                self.take(answer)
+
+    def take(self, answer):
+        """Takes an answer."""
+        if answer.number in self.over:
+            self.take_late(answer)
+        elif answer.number not in self.asked:
+            self.pass_over(f"an answer to what wasn't asked, {answer.code} {answer.number}")
+        elif answer.is_provisional:
+            # it has it, and needn't be told again
+            self.times.forget(("gateway again", answer.number))
+        else:
+            if self.is_silent:
+                self.say("answers again")
+            self.is_silent = False
+            if not answer.is_done:
+                self.counts["refused"] += 1
+                self.say(f"answers {answer.code} to {self.asked[answer.number].command.verb.value}")
+            self.finish(answer.number, answer)
+
+    def take_late(self, answer):
+        """Takes an answer to what is over. A gateway that was told the same twice may have made two connections; one that was
+        given up has made one that nobody uses: these are deleted."""
+        command, made = self.over[answer.number]
+        if command.verb is not Verb.CREATE or not answer.is_done or (answer.endpoint, answer.connection) in made:
+            return
+        made.add((answer.endpoint, answer.connection))
+        endpoint = answer.endpoint or command.endpoint
+        if endpoint == self.any_endpoint or answer.connection is None:
+            self.pass_over("a late answer without an endpoint or a connection")
+            return
+        self.say(f"made a connection that nobody uses, at {endpoint}: it is deleted")
+        self.ask(Command(Verb.DELETE, endpoint, command.call, answer.connection), lambda _answer: None)
+
+    def pass_over(self, what):
+        """Something came that nobody takes."""
+        self.counts["passed over"] += 1
+        self.say(what)
+
+    def say(self, text):
+        """Says something of the gateway, unless too much was said of it."""
+        self.sayings.say("gateway", f"{self}: {text}")
+
+    def known(self):
+        """What is known of it, in one line."""
+        counts = ", ".join(f"{name} {count}" for name, count in self.counts.items())
+        return f"gateway: {'silent' if self.is_silent else 'not silent'}; transactions: {len(self.asked)} open, {counts}"

@@ -1,0 +1,136 @@
+"""A link of IPA that this end opens, and opens again where it is lost: SCCP over TCP, as osmo-stp takes it.
+
+The other side asks who this is, and knows an application server by the name that it is told; then each side acknowledges.
+"""
+import errno
+import selectors
+import socket
+
+import ipa
+from tell import say
+from stream import Stream
+
+# The stream of SCCP, and what a unit without a number says that it is.
+SCCP, NO_UNIT = 0xFD, "0/0/0"
+
+
+class IpaClient:
+    """The link. `user` has methods `up()`, `down()` and `heard(octets)` for the messages of SCCP."""
+
+    def __init__(self, selector, times, centre, seconds, user):
+        self.selector, self.times, self.centre, self.seconds, self.user = selector, times, centre, seconds, user
+        self.socket = self.stream = None
+        self.is_ready = self.is_left = False
+        self.frames = ipa.Frames()
+
+    def start(self):
+        """Opens it; where that fails, again after a while."""
+        self.frames, self.is_ready = ipa.Frames(), False
+        try:
+            family, kind, protocol, _, address = socket.getaddrinfo(
+                self.centre.address, self.centre.port, type=socket.SOCK_STREAM
+            )[0]
+            self.socket = socket.socket(family, kind, protocol)
+            self.socket.setblocking(False)
+            status = self.socket.connect_ex(address)
+        except OSError as error:
+            self.lose(str(error))
+            return
+        if status not in (0, errno.EINPROGRESS):
+            self.lose(errno.errorcode.get(status, str(status)))
+            return
+        self.selector.register(self.socket, selectors.EVENT_WRITE, self.opened)
+        self.times.set("centre", self.seconds["patience"], lambda: self.lose("the centre's link doesn't come up"))
+
+    def opened(self, _mask):
+        """It is open, or can't be."""
+        self.selector.unregister(self.socket)
+        if status := self.socket.getsockopt(socket.SOL_SOCKET, socket.SO_ERROR):
+            self.lose(errno.errorcode.get(status, str(status)))
+            return
+        self.socket.setsockopt(socket.IPPROTO_TCP, socket.TCP_NODELAY, 1)
+        number = self.socket.fileno()
+        self.stream = Stream(self.selector, number, number, self.heard, lambda: self.lose("the link ended"))
+
+    def send(self, octets):
+        """Sends a message of SCCP."""
+        if self.stream and self.is_ready:
+            self.stream.send(ipa.frame(SCCP, octets))
+
+    def heard(self, octets):
+        """Takes octets that came; anything that comes shows that the other side is there."""
+        if self.is_ready:
+            self.watch()
+        self.frames.add(octets)
+        while self.stream and (frame := self.frames.next()):
+            stream, message = frame
+            if stream == ipa.OWN:
+                self.heard_own(message)
+            elif stream == SCCP and self.is_ready:
+                self.user.heard(message)
+
+    def heard_own(self, message):
+        """Takes a message of IPA's own."""
+        kind = message[:1]
+        if kind == ipa.PING:
+            self.stream.send(ipa.frame(ipa.OWN, ipa.PONG))
+        elif kind == ipa.IDENTITY_REQUEST:
+            self.stream.send(ipa.frame(ipa.OWN, self.identity(message)))
+        elif kind == ipa.ACKNOWLEDGEMENT and not self.is_ready:
+            self.stream.send(ipa.frame(ipa.OWN, ipa.ACKNOWLEDGEMENT))
+            self.is_ready = True
+            self.watch()
+            self.user.up()
+
+    def identity(self, asked):
+        """Who this is: the name, for each thing that is asked for."""
+        items, at = b"", 1
+        while at + 1 < len(asked) and asked[at]:
+            text = NO_UNIT if asked[at + 1] == ipa.UNIT else self.centre.name
+            items += (len(text) + 2).to_bytes(2, "big") + bytes([asked[at + 1]]) + text.encode() + b"\0"
+            at += 1 + asked[at]
+        return ipa.IDENTITY + items
+
+    def watch(self):
+        """Asks whether the other side is there where nothing comes for a while; where nothing comes then, it isn't."""
+
+        def ask():
+            self.stream.send(ipa.frame(ipa.OWN, ipa.PING))
+            self.times.set("centre", self.seconds["patience"], miss)
+
+        def miss():
+            if self.stream.pauses or self.stream.readable():
+                # what it says isn't read for a while, or lies there
+                self.watch()
+            else:
+                self.lose("the centre is silent")
+
+        self.times.set("centre", self.seconds["patience"], ask)
+
+    def lose(self, why):
+        """It is lost, or doesn't come up: it is tried again."""
+        was_ready = self.is_ready
+        self.close()
+        if not self.is_left:
+            say(f"A: no link to {self.centre.address}, port {self.centre.port}: {why}")
+            self.times.set("centre", self.seconds["retry"], self.start)
+        if was_ready:
+            self.user.down()
+
+    def close(self):
+        """Closes it."""
+        self.is_ready = False
+        self.times.forget("centre")
+        if self.stream:
+            self.stream.leave()
+            self.stream = None
+        if self.socket:
+            if self.socket.fileno() >= 0 and self.socket in self.selector.get_map():
+                self.selector.unregister(self.socket)
+            self.socket.close()
+            self.socket = None
+
+    def leave(self):
+        """Closes it for good."""
+        self.is_left = True
+        self.close()

@@ -1,0 +1,118 @@
+"""The bridge's log: a script of each line that the controller could read, each behind a comment that says when it was given,
+and by whom where that was no station. `run` plays it (docs/PROGRAM.md)."""
+import os
+import stat
+import time
+
+from tell import say
+
+# How many octets may wait for room on a disk that is full.
+MOST_WAITING = 1 << 20
+# How many octets are written at once, a longer line aside, and after how many seconds a full disk is tried again.
+PIECE, AGAIN = 1 << 16, 1.0
+
+
+def stamp():
+    """The date and the time of day."""
+    seconds = time.time()
+    return f"{time.strftime('%Y-%m-%d %H:%M:%S', time.localtime(seconds))}.{int(seconds * 1000) % 1000:03}"
+
+
+class Log:
+    """A log at a path."""
+
+    def __init__(self, path, times):
+        """`times` are told when a full disk is to be tried again."""
+        self.path, self.times = path, times
+        self.file = None
+        # what isn't written yet, for want of room, and how many lines there wasn't even room for here
+        self.waiting = bytearray()
+        self.missing = 0
+        self.is_full = False
+        self.open()
+
+    def open(self):
+        """Goes on behind what the file has. What stands behind its last line feed is no line, and is cut off."""
+        flags = os.O_RDWR | os.O_CREAT | os.O_APPEND | os.O_CLOEXEC | os.O_NOCTTY | os.O_NONBLOCK
+        file, self.file = self.file, os.open(self.path, flags, 0o600)
+        if file is not None:
+            os.close(file)
+        if self.is_file():
+            os.fchmod(self.file, 0o600)
+            if torn := self.cut(os.fstat(self.file).st_size):
+                say(f"{self.path}: its last line has no line feed: {torn} octets are cut off")
+        self.put(f"# {stamp()} the log begins, or goes on, here\n".encode())
+
+    def open_anew(self):
+        """Opens the file anew, as after it was moved away."""
+        try:
+            self.open()
+        except OSError as error:
+            say(f"the log can't be opened anew, and goes on in the old file: {error}")
+
+    def is_file(self):
+        """Whether it is a file on a disk, which can be cut."""
+        return stat.S_ISREG(os.fstat(self.file).st_mode)
+
+    def cut(self, size):
+        """Cuts the file behind its last line feed, where it has this size; how many octets were cut off."""
+        kept, torn = size, b""
+        while kept and b"\n" not in torn:
+            begin = max(0, kept - 4096)
+            torn = os.pread(self.file, kept - begin, begin) if kept else b""
+            kept = begin + torn.rfind(b"\n") + 1
+        if kept < size:
+            os.ftruncate(self.file, kept)
+        return size - kept
+
+    def write(self, line, who=None):
+        """Writes a line, with the time, and with who gave it."""
+        self.put(f"# {stamp()}{f' {who}' if who else ''}\n".encode(errors="replace") + line + b"\n")
+
+    def put(self, text):
+        """Writes whole lines, behind those that wait."""
+        if self.missing or len(self.waiting) > MOST_WAITING:
+            # behind one that is missing all are, until a comment says so
+            self.missing += 1
+        else:
+            self.waiting += text
+        if not self.is_full:
+            self.flush()
+
+    def flush(self):
+        """Writes what waits. What there is no room for goes on waiting, and half a line doesn't stay."""
+        try:
+            while self.waiting:
+                self.write_piece()
+        except OSError as error:
+            if not self.is_full:
+                say(f"{self.path}: the log can't be written now: {error}")
+            self.is_full = True
+            self.times.set("log", AGAIN, self.flush)
+            return
+        if self.is_full:
+            self.is_full, missing, self.missing = False, self.missing, 0
+            say(f"{self.path}: the log goes on; lines that are missing: {missing}")
+            if missing:
+                self.put(f"# {stamp()} {missing} lines are missing here\n".encode())
+
+    def write_piece(self):
+        """Writes the first of the lines that wait, and no half of one."""
+        end = self.waiting.rfind(b"\n", 0, PIECE) + 1 or self.waiting.index(b"\n") + 1
+        begin = os.fstat(self.file).st_size
+        written = os.write(self.file, self.waiting[:end])
+        if self.is_file():
+            written = self.waiting.rfind(b"\n", 0, written) + 1
+            if os.fstat(self.file).st_size > begin + written:
+                os.ftruncate(self.file, begin + written)
+            if not written:
+                raise OSError("there is no room for a line")
+        del self.waiting[:written]
+
+    def finish(self):
+        """Nothing more is written."""
+        self.times.forget("log")
+        self.flush()
+        if self.waiting:
+            say(f"{self.path}: {len(self.waiting)} octets of the log aren't written, lines that are missing: {self.missing}")
+        os.close(self.file)

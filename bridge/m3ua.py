@@ -1,0 +1,210 @@
+"""SCCP over M3UA, by a C program of lines (m3ua.c): it is built where the bridge begins, and is begun anew where it ends,
+as it does with its link. To the bridge it is both the link (ipa_client.py) and the connections (connections.py)."""
+import os
+import pathlib
+import shutil
+import subprocess
+import tempfile
+
+import sccp
+from connections import Connection, State
+from stream import Lines, Stream
+from tell import say
+
+SOURCE = pathlib.Path(__file__).resolve().parent / "m3ua.c"
+LIBRARIES = ("-losmo-sigtran", "-losmocore", "-ltalloc")
+# Where the program counts from for connections that it is asked for; those that the other side asks for have smaller numbers.
+FIRST = 0x400000
+
+
+def build(folder):
+    """Builds the program; raises OSError where that can't be done."""
+    if not shutil.which("cc"):
+        raise OSError("M3UA wants a C compiler and libosmo-sigtran-dev, and there is no cc")
+    program = pathlib.Path(folder) / "m3ua"
+    built = subprocess.run(["cc", "-O2", "-o", program, SOURCE, *LIBRARIES], capture_output=True, text=True)
+    if built.returncode:
+        raise OSError(f"M3UA wants libosmo-sigtran-dev: {built.stderr.strip().splitlines()[0]}")
+    return program
+
+
+class M3ua:
+    """The link and its connections. `user` has the methods that both tell."""
+
+    def __init__(self, selector, times, centre, seconds, user):
+        self.selector, self.times, self.centre, self.seconds, self.user = selector, times, centre, seconds, user
+        self.folder = tempfile.TemporaryDirectory()
+        self.program = self.process = self.stream = None
+        self.is_left = self.is_up = False
+        self.known, self.next = {}, FIRST
+        self.takers = {
+            "up": self.up,
+            "unitdata": lambda octets: self.user.unit_data(octets),
+            "asked": self.asked,
+            "confirmed": self.confirmed,
+            "data": self.heard_data,
+            "ended": self.ended,
+        }
+
+    # The link
+
+    def start(self):
+        """Begins the program, which opens the link."""
+        self.program = self.program or build(self.folder.name)
+        it = self.centre
+        words = [self.program, it.address, it.port, it.own, it.peer]
+        pipe = subprocess.PIPE
+        self.process = subprocess.Popen([str(word) for word in words], stdin=pipe, stdout=pipe, start_new_session=True)
+        reads, writes = (os.dup(file.fileno()) for file in (self.process.stdout, self.process.stdin))
+        self.process.stdout.close()
+        self.process.stdin.close()
+        for number in (reads, writes):
+            os.set_blocking(number, False)
+        lines = Lines(self.heard)
+        self.stream = Stream(self.selector, reads, writes, lines.add, lambda: self.lose("the link ended"))
+        self.times.set("centre", self.seconds["patience"], lambda: self.lose("the centre's link doesn't come up"))
+
+    def lose(self, why):
+        """The program has ended, or doesn't come up: it is begun again."""
+        was_up, self.is_up = self.is_up, False
+        self.close()
+        if not self.is_left:
+            say(f"A: no link to {self.centre.address}, port {self.centre.port}: {why}")
+            self.times.set("centre", self.seconds["retry"], self.start)
+        if was_up:
+            self.user.down()
+
+    def close(self):
+        """Ends the program."""
+        self.times.forget("centre")
+        if self.stream:
+            files = {self.stream.reads, self.stream.writes} - {None}
+            self.stream.leave()
+            self.stream = None
+            for number in files:
+                os.close(number)
+            self.process.kill()
+            self.process.wait()
+
+    def leave(self):
+        """Ends it for good."""
+        self.is_left = True
+        self.close()
+        self.folder.cleanup()
+
+    def put(self, line):
+        """Gives the program a line."""
+        if self.stream and self.is_up:
+            self.stream.send(line.encode() + b"\n")
+
+    def heard(self, line):
+        """Takes a line of the program."""
+        what, *words = line.decode().split()
+        if what not in self.takers:
+            say(f"A: no line that is known: {what}")
+            return
+        octets = [bytes.fromhex(words[-1].replace("-", ""))] if words and what != "ended" else []
+        # the number of the connection stands in front, but where there is none
+        connection = [int(words[0])] if len(words) > 1 else []
+        self.takers[what](*connection, *octets)
+
+    def up(self):
+        """Messages can be sent."""
+        self.is_up = True
+        self.times.forget("centre")
+        self.user.up()
+
+    # What the user asks
+
+    def unit_data(self, octets):
+        """Sends a message without a connection."""
+        self.put(f"unitdata {octets.hex()}")
+
+    def connect(self, octets):
+        """Asks for a connection, with a first message."""
+        connection = self.known[self.next] = Connection(self.next, State.REQUESTED)
+        self.next = FIRST if self.next == 0xFFFFFD else self.next + 1
+        if len(octets) <= sccp.LONGEST_REQUEST:
+            self.put(f"connect {connection.own} {octets.hex()}")
+        else:
+            self.put(f"connect {connection.own} -")
+            connection.waiting.append(octets)
+        self.times.set(("m3ua", connection.own), self.seconds["connect"], lambda: self.unanswered(connection))
+        return connection
+
+    def unanswered(self, connection):
+        """The other side doesn't answer: if it does yet, that is released."""
+        self.put(f"release {connection.own}")
+        self.end(connection, "isn't answered")
+
+    def accept(self, connection):
+        """Takes a connection that the other side asked for."""
+        connection.state = State.OPEN
+        self.put(f"accept {connection.own}")
+
+    def refuse(self, connection):
+        """Refuses one."""
+        self.release(connection)
+
+    def data(self, connection, octets):
+        """Sends a message on a connection; it waits where that isn't open yet."""
+        if len(octets) > sccp.LONGEST_DATA:
+            say(f"A: not sent, a message of {len(octets)} octets would have to be segmented: {octets[:20].hex()}")
+        elif connection.state is State.REQUESTED:
+            connection.waiting.append(octets)
+        elif connection.state is State.OPEN:
+            self.put(f"data {connection.own} {octets.hex()}")
+
+    def release(self, connection):
+        """Ends a connection."""
+        if connection.own in self.known:
+            self.forget(connection)
+            self.put(f"release {connection.own}")
+
+    def lost(self):
+        """The link is lost: all connections end."""
+        for connection in list(self.known.values()):
+            self.end(connection, "is lost with the link")
+
+    # What comes
+
+    def asked(self, own, octets):
+        """The other side asks for a connection."""
+        connection = self.known[own] = Connection(own, State.OFFERED)
+        self.user.asked(connection, octets)
+
+    def confirmed(self, own, octets):
+        """The other side takes a connection, perhaps with a message."""
+        connection = self.known.get(own)
+        if connection is None or connection.state is not State.REQUESTED:
+            return
+        connection.state = State.OPEN
+        self.times.forget(("m3ua", own))
+        waiting, connection.waiting = connection.waiting, []
+        for message in waiting:
+            self.data(connection, message)
+        self.user.confirmed(connection)
+        if octets and connection.state is State.OPEN:
+            self.user.data(connection, octets)
+
+    def heard_data(self, own, octets):
+        """A message on a connection."""
+        connection = self.known.get(own)
+        if connection and connection.state is State.OPEN:
+            self.user.data(connection, octets)
+
+    def ended(self, own):
+        """The other side ended a connection, or didn't take it."""
+        if connection := self.known.get(own):
+            self.end(connection, "is released or refused")
+
+    def end(self, connection, why):
+        """A connection has ended."""
+        self.forget(connection)
+        self.user.ended(connection, why)
+
+    def forget(self, connection):
+        """Nothing more is known of a connection."""
+        self.known.pop(connection.own, None)
+        self.times.forget(("m3ua", connection.own))
+        connection.state = State.RELEASING

@@ -1,0 +1,355 @@
+"""The speech of calls. A call that speaks has an endpoint of the media gateway, with a connection to its station and one to
+the centre: the centre doesn't see on which station the call is. While the call moves, the station of its target has a
+connection too, and the gateway is told to speak with that one once the mobile is there (HANDOVER DETECTION).
+
+What is to be and what the gateway was told are compared after each step; of an endpoint one thing is asked at a time. So
+nothing is in the wrong order, however long an answer takes.
+"""
+import enum
+import itertools
+import secrets
+
+import ipacc
+import rsl
+from bssmap import Cause
+from mgcp import Command, Verb
+from rtp import codec_of
+from tell import say
+
+# The stages of an attempt in which its target is on (docs/BOOK.md).
+TARGET_ON = ("confirmed", "commanded", "detected")
+# HANDOVER COMMAND (TS 44.018, 9.1.15): protocol discriminator and type.
+HANDOVER_COMMAND = b"\x06\x2b"
+
+
+class Stage(enum.Enum):
+    """How far a station is with a channel's speech: asked where it has it, has said so, was told where the gateway has it, and
+    has taken that."""
+
+    ASKED = enum.auto()
+    KNOWN = enum.auto()
+    TOLD = enum.auto()
+    JOINED = enum.auto()
+
+
+# What a station may say at each stage; one that is asked may end the connection before that one.
+AWAITED = {
+    Stage.ASKED: (ipacc.Type.CREATED, ipacc.Type.NOT_CREATED),
+    Stage.KNOWN: (ipacc.Type.ENDED,),
+    Stage.TOLD: (ipacc.Type.MODIFIED, ipacc.Type.NOT_MODIFIED, ipacc.Type.ENDED),
+    Stage.JOINED: (ipacc.Type.ENDED,),
+}
+
+
+class Leg:
+    """A channel's speech at its station: the connection's number, and where the station has it."""
+
+    def __init__(self, channel):
+        self.channel, self.codec = channel, codec_of(channel.number)
+        self.stage = Stage.ASKED
+        self.connection = self.local = None
+
+
+class Side:
+    """A connection of an endpoint: where the gateway has it, where the gateway was told that the other side has it, and where
+    that has it now."""
+
+    def __init__(self):
+        self.connection = self.local = self.told = self.wanted = None
+
+
+class Speech:
+    """The speech of a call, under a name that no other has."""
+
+    def __init__(self, talk, name):
+        self.talk, self.name = talk, name
+        self.endpoint = None
+        self.station, self.centre = Side(), Side()
+        # by channel; and the channel where the mobile is
+        self.legs, self.at = {}, None
+        # whether the gateway was asked something and hasn't answered; whether there has been speech; whether the call goes on
+        # without, or has ended
+        self.is_asking = self.is_there = self.is_over = False
+        # who waits until there is speech, and is told the cause where there can't be any
+        self.ready = self.failed = None
+        # a HANDOVER COMMAND that waits until the target has speech
+        self.held = None
+
+    def waiters(self):
+        """Who waits; they are told once."""
+        found = self.ready, self.failed
+        self.ready = self.failed = None
+        return found
+
+
+class Media:
+    """The speech of all calls. `relay` has stations and calls; whoever makes it gives it a `gateway`."""
+
+    def __init__(self, relay, times, seconds):
+        self.relay, self.times, self.seconds = relay, times, seconds
+        self.gateway = None
+        # names: of this run of the bridge, and of the call
+        self.run, self.numbers = secrets.token_hex(6), itertools.count(1)
+        self.all = set()
+        self.legs = {}
+
+    # What is asked
+
+    def begin(self, talk, centre, ready, failed):
+        """A call is to have speech, which the centre has there. `ready` is called once there is; `failed` is given a cause
+        where there can't be. A call that has speech already goes on with it, by the new address."""
+        if talk.speech is None:
+            talk.speech = Speech(talk, f"{self.run}{next(self.numbers):x}")
+            self.all.add(talk.speech)
+        speech = talk.speech
+        speech.centre.wanted = centre
+        speech.ready, speech.failed = ready, failed
+        self.follow(talk)
+
+    def follow(self, talk):
+        """Something became of a call's channels: its speech goes where it is."""
+        speech, place = talk.speech, self.relay.talks.place(talk)
+        if speech is None:
+            return
+        if place is None:
+            self.end(talk)
+            return
+        has_target = place.stage in TARGET_ON
+        channels = [it for it in (place.serving, place.target if has_target else None) if it]
+        for channel in set(speech.legs) - set(channels):
+            self.forget_leg(speech, channel)
+        if not has_target:
+            speech.held = None
+        is_there = place.serving is None or place.stage == "detected"
+        speech.at = place.target if is_there else place.serving
+        for channel in channels:
+            if channel not in speech.legs:
+                self.create(speech, channel)
+        self.go_on(speech)
+
+    def end(self, talk):
+        """A call has no speech any more, or isn't there any more: its endpoint is deleted."""
+        speech, talk.speech = talk.speech, None
+        if speech is None:
+            return
+        for channel in list(speech.legs):
+            self.forget_leg(speech, channel)
+        speech.is_over, speech.held = True, None
+        self.times.forget(("audit", speech.name))
+        speech.waiters()
+        self.go_on(speech)
+
+    def drop(self, talk):
+        """A call goes on without speech: its station is told too. A mobile that was to wait for speech is sent away now."""
+        held = talk.speech.held
+        for leg in talk.speech.legs.values():
+            if leg.connection is not None:
+                self.tell(leg.channel, ipacc.delete(leg.channel.number, leg.connection))
+        self.end(talk)
+        if held:
+            self.relay.send(*held)
+
+    def leave(self):
+        """The bridge ends: all endpoints are deleted, and no answer is waited for."""
+        for speech in list(self.all):
+            if speech.endpoint and not speech.is_over:
+                self.delete(speech)
+
+    def known(self):
+        """What is known of speech, in one line."""
+        return f"speech: {len(self.all)} endpoints; {self.gateway.known()}"
+
+    # Endpoints
+
+    def go_on(self, speech):
+        """Does the next thing for an endpoint, if there is one."""
+        if speech.is_over:
+            if not speech.is_asking:
+                self.delete(speech)
+            return
+        leg = speech.legs.get(speech.at)
+        if leg and leg.local:
+            speech.station.wanted = leg.local
+        self.tell_legs(speech)
+        if speech.is_asking:
+            return
+        for side in (speech.centre, speech.station):
+            if side.wanted != side.told:
+                self.ask(speech, side)
+                return
+        if leg and leg.stage is Stage.JOINED:
+            self.be_there(speech)
+
+    def be_there(self, speech):
+        """A call has the speech that it is to have. Now and then the gateway is asked about that: one that began anew doesn't
+        know the connection, of which nobody would hear otherwise."""
+        speech.is_there = True
+        self.times.set(("audit", speech.name), self.seconds["gateway-audit"], lambda: self.audit(speech))
+        if ready := speech.waiters()[0]:
+            ready()
+
+    def audit(self, speech):
+        """Looks whether the gateway has a call's speech still, by a command that changes nothing."""
+        side = speech.station
+        if not speech.is_asking:
+            self.put(speech, side, Command(Verb.MODIFY, speech.endpoint, speech.name, side.connection), side.told)
+
+    def ask(self, speech, side):
+        """Asks the gateway for a connection, or tells it where the other side has it now."""
+        verb = Verb.MODIFY if side.connection else Verb.CREATE
+        endpoint, remote = speech.endpoint or self.gateway.any_endpoint, side.wanted
+        command = Command(verb, endpoint, speech.name, side.connection, codec_of(speech.at.number), remote)
+        self.put(speech, side, command, remote)
+
+    def put(self, speech, side, command, remote):
+        """Asks the gateway something of a side; `remote` is where it knows the other side then."""
+        speech.is_asking = True
+        self.gateway.ask(command, lambda answer: self.answered(speech, side, remote, answer))
+
+    def answered(self, speech, side, remote, answer):
+        """The gateway has answered, or hasn't."""
+        speech.is_asking = False
+        if answer and answer.is_done and not side.connection:
+            speech.endpoint = speech.endpoint or answer.endpoint
+            side.connection, side.local = answer.connection, answer.local
+        if speech.is_over:
+            self.go_on(speech)
+        elif answer is None and side.told == remote:
+            # it was asked nothing new: it is asked again later
+            self.go_on(speech)
+        elif answer is None:
+            self.fail(speech, side, Cause.EQUIPMENT_FAILURE)
+        elif not answer.is_done:
+            self.fail(speech, side, Cause.NO_TERRESTRIAL_RESOURCE)
+        elif not speech.endpoint or not side.connection or not side.local:
+            say(f"{self.gateway}: makes a connection, and doesn't say which, or where")
+            self.fail(speech, side, Cause.EQUIPMENT_FAILURE)
+        else:
+            side.told = remote
+            self.go_on(speech)
+
+    def fail(self, speech, side, cause):
+        """A call can't have the speech that it is to have, for one side's sake. Where it had some, it goes on with that by the
+        centre's old place; without its station's it has lost it."""
+        is_lost = speech.is_there and side is speech.station
+        for it in (speech.centre, speech.station):
+            it.wanted = it.told
+        if failed := speech.waiters()[1]:
+            failed(cause)
+        if is_lost and not speech.is_over:
+            say(f"{speech.talk}: its speech is lost")
+            self.relay.a_side.ask_to_clear(speech.talk, Cause.EQUIPMENT_FAILURE)
+
+    def delete(self, speech):
+        """Deletes an endpoint, where there is one."""
+        self.all.discard(speech)
+        if speech.endpoint:
+            endpoint, speech.endpoint = speech.endpoint, None
+            self.gateway.ask(Command(Verb.DELETE, endpoint, speech.name), lambda answer: self.deleted(endpoint, answer))
+
+    def deleted(self, endpoint, answer):
+        """The gateway has deleted an endpoint, or hasn't answered."""
+        if answer is None:
+            say(f"{self.gateway}: {endpoint} may be left there")
+
+    # Stations
+
+    def tell(self, channel, message):
+        """Tells a station something of a channel's speech."""
+        if station := self.relay.places.get((channel.cell, channel.trx)):
+            self.relay.pass_on(station, message)
+
+    def create(self, speech, channel):
+        """Asks a station where it has a channel's speech."""
+        leg = speech.legs[channel] = Leg(channel)
+        self.legs[channel] = speech
+        self.tell(channel, ipacc.create(channel.number, leg.codec))
+        self.await_answer(speech, leg)
+
+    def tell_legs(self, speech):
+        """Tells stations where the gateway has the call, once that is known."""
+        for leg in speech.legs.values():
+            if leg.stage is Stage.KNOWN and speech.station.local:
+                leg.stage = Stage.TOLD
+                self.tell(leg.channel, ipacc.modify(leg.channel.number, leg.connection, leg.codec, speech.station.local))
+                self.await_answer(speech, leg)
+
+    def await_answer(self, speech, leg):
+        """A station has to answer in time."""
+        name, seconds = ("speech", leg.channel), self.seconds["answer"]
+        self.times.set(name, seconds, lambda: self.leg_failed(speech, leg, f"doesn't answer in {seconds:g} seconds"))
+
+    def heard(self, station, message):
+        """A station says something of a channel's speech."""
+        said = ipacc.said_in(message)
+        channel = said and station.channel(said.channel)
+        speech = self.legs.get(channel)
+        if said is None:
+            station.pass_over("a message of speech that is cut")
+        elif speech is None:
+            station.pass_over("a message of speech of no call")
+            if said.type is ipacc.Type.CREATED:
+                # it answers what was given up: it would refuse the next one
+                self.tell(channel, ipacc.delete(said.channel, said.connection))
+        elif said.type in AWAITED[speech.legs[channel].stage]:
+            station.came += 1
+            self.take(speech, speech.legs[channel], said)
+        elif said.type not in (ipacc.Type.DELETED, ipacc.Type.NOT_DELETED):
+            station.pass_over(f"a message of speech that isn't awaited, {said.type:02x}")
+
+    def take(self, speech, leg, said):
+        """Takes what is awaited of a station."""
+        self.times.forget(("speech", leg.channel))
+        if said.type is ipacc.Type.CREATED:
+            leg.connection, leg.local, leg.stage = said.connection, said.local, Stage.KNOWN
+            if leg.local:
+                self.go_on(speech)
+            else:
+                self.leg_failed(speech, leg, "doesn't say where it has it")
+        elif said.type is ipacc.Type.MODIFIED:
+            leg.stage = Stage.JOINED
+            self.joined(speech, leg)
+        else:
+            self.leg_failed(speech, leg, f"says {said.type.name.lower().replace('_', ' ')}, cause {said.cause or 'missing'}")
+
+    def joined(self, speech, leg):
+        """A station has taken where the gateway has the call."""
+        place, held = self.relay.talks.place(speech.talk), speech.held
+        if held and place.target == leg.channel:
+            speech.held = None
+            self.relay.send(*held)
+        self.go_on(speech)
+
+    def leg_failed(self, speech, leg, why):
+        """A station can't have a channel's speech. A mobile isn't sent where there is none."""
+        say(f"{speech.talk}: speech on channel {leg.channel}: its station {why}")
+        self.times.forget(("speech", leg.channel))
+        place = self.relay.talks.place(speech.talk)
+        if leg.channel == speech.at:
+            self.fail(speech, speech.station, Cause.EQUIPMENT_FAILURE)
+        elif place and leg.channel == place.target:
+            self.relay.give(b"undo %d" % speech.talk.number)
+        else:
+            # the mobile is on its target: should it come back, the station is asked again
+            self.forget_leg(speech, leg.channel)
+
+    def forget_leg(self, speech, channel):
+        """A call has a channel no more."""
+        del speech.legs[channel]
+        if self.legs.get(channel) is speech:
+            del self.legs[channel]
+            self.times.forget(("speech", channel))
+
+    # A mobile that is sent away
+
+    def holds(self, cell, trx, message):
+        """Whether a message to a station waits: a HANDOVER COMMAND of a call with speech whose target has none yet."""
+        message_type, number = rsl.on_main_link(message) or (None, None)
+        if message_type != rsl.DATA_REQUEST or message[9:11] != HANDOVER_COMMAND:
+            return False
+        talk = self.relay.talks.on(rsl.Channel(cell, trx, number))
+        leg = talk and talk.speech and talk.speech.legs.get(self.relay.talks.place(talk).target)
+        if not leg or leg.stage is Stage.JOINED:
+            return False
+        talk.speech.held = cell, trx, message
+        return True

@@ -1,0 +1,181 @@
+"""Operators: what they may ask, and who is told what came of it."""
+import re
+import socket
+import struct
+
+from stream import MOST_WAITING, Lines, Stream
+from tell import show
+
+# Keywords of what is simulated: none of it is there.
+SIMULATED = (b"sim", b"refuse", b"hold", b"let", b"mobile", b"double", b"cut", b"hangup")
+# After how many seconds without another line an operator who has asked all is answered to the end.
+QUIET = 0.5
+# How many lines of an input may come before it is known of which call it is.
+MOST_LINES = 100
+# How many digits the number of a call may have.
+LONGEST_NUMBER = 20
+HELP = """\
+stations: the stations: since when each is there, its channels, its messages
+calls: the channels in use: of which call and since when, how the station has them, and whether that agrees; lost calls
+watch: from here on all that the controller prints; watch CALL: what comes of this call; watch off: no more of that
+help: this
+open CALL CELL TRX TN: a call begins on a channel, TN as 3, or 3/0 and 3/1 for halves of a timeslot
+seize CALL CELL RATE: a call begins on the lowest free channel of a cell, RATE full or half
+handover CALL CELL: a call is to go to a cell, to an outside one from 64 on
+undo CALL: the handover of a call is taken back
+clear CALL: a call ends
+expire CALL TIMER: a timer of a call, T3103, T7 or T8, runs out
+abis CELL TRX HEX: a message of a station is given in its place
+a CALL HEX: a message of the switching centre about a call
+#: nothing""".split("\n")
+
+
+class Operator:
+    """Somebody who gives lines: at standard input, or at the control socket."""
+
+    def __init__(self, relay, name):
+        self.relay, self.name = relay, name
+
+    def __str__(self):
+        return self.name
+
+    def take(self, line):
+        """Takes a line."""
+        words = line.split()
+        if not words or line.startswith(b"#"):
+            return
+        if words == [b"help"]:
+            self.tell(*HELP)
+        elif words == [b"stations"]:
+            self.tell(*(station.known() for station in self.relay.stations.values()))
+        elif words == [b"calls"]:
+            self.tell(*self.relay.views.channels())
+        elif words[0] == b"watch":
+            self.watch(words[1:])
+        elif words[0] in SIMULATED:
+            self.tell(f"refused: {shown(line)}: {words[0].decode()} is for simulators, and the stations are there")
+        else:
+            self.relay.give(line, self)
+
+    def refuse_torn(self, rest):
+        """Says that a line which ends without a line feed isn't carried out."""
+        self.tell(f"refused: {shown(rest)}: the line has no line feed at its end, and may be cut")
+
+    def tell(self, *texts):
+        """Tells lines of text."""
+        for text in texts:
+            self.answer(text.encode(errors="replace"))
+
+    def watch(self, _words):
+        """Asks for what the controller prints."""
+        self.tell("refused: watch: standard output has all that the controller prints")
+
+    def answer(self, line):
+        """Is told a line."""
+        show(line)
+
+    def hear(self, _line):
+        """Hears what the controller prints of his line, which is shown already."""
+
+
+class Watched:
+    """What comes of a call: all lines of each input of which one names it."""
+
+    def __init__(self, call):
+        """`call` is its number."""
+        self.names = re.compile(rb"(in \w+|out a|event \w+|event .* -> owned) %d\b(?!/)" % call)
+        self.lines = []
+        self.is_named = False
+
+    def see(self, line):
+        """Which lines are of the call, now that another has come."""
+        if line.startswith((b"in ", b"line ", b"end ")):
+            self.lines, self.is_named = [], False
+        self.is_named = self.is_named or (self.names.match(line) and not line.startswith(b"in abis")) is True
+        self.lines = [*self.lines[-MOST_LINES:], line]
+        if not self.is_named:
+            return []
+        lines, self.lines = self.lines, []
+        return lines
+
+
+class Client(Operator):
+    """An operator at the control socket."""
+
+    count = 0
+
+    def __init__(self, bridge, connection):
+        Client.count += 1
+        user = struct.unpack("3i", connection.getsockopt(socket.SOL_SOCKET, socket.SO_PEERCRED, 12))[1]
+        super().__init__(bridge.relay, f"operator {Client.count}, user {user}")
+        self.bridge, self.connection = bridge, connection
+        self.is_leaving = False
+        self.watched = None
+        connection.setblocking(False)
+        number = connection.fileno()
+        lines = Lines(self.take)
+        self.stream = Stream(bridge.selector, number, number, lines.add, lambda: self.ended(lines.end()))
+
+    def take(self, line):
+        """Takes a line, unless he doesn't read what he is told."""
+        if not self.is_leaving:
+            super().take(line)
+
+    def tell(self, *texts):
+        """Tells lines of text, at once."""
+        self.answer("\n".join(texts).encode(errors="replace"))
+
+    def watch(self, words):
+        """Subscribes to what the controller prints."""
+        self.relay.watchers.discard(self)
+        if words == [b"off"] or self.is_leaving:
+            return
+        if words and not (len(words) == 1 and words[0].isdigit() and len(words[0]) <= LONGEST_NUMBER):
+            self.tell("refused: watch, watch CALL or watch off")
+            return
+        self.watched = Watched(int(words[0])) if words else None
+        self.relay.watchers.add(self)
+
+    def see(self, line):
+        """Sees a line of the controller that it watches."""
+        for it in self.watched.see(line) if self.watched else [line]:
+            self.answer(it)
+
+    def answer(self, line):
+        """Is told a line."""
+        self.stream.send(line + b"\n")
+        if self.is_leaving:
+            self.leave_soon()
+
+    def hear(self, line):
+        """Hears what the controller prints of his line."""
+        self.answer(line)
+
+    def ended(self, rest):
+        """Nothing more is asked: what is asked already is answered. A line without its line feed isn't carried out."""
+        if rest and not self.is_leaving:
+            self.refuse_torn(rest)
+        self.is_leaving = True
+        self.relay.watchers.discard(self)
+        self.stream.pause("leaving", True)
+        self.leave_soon()
+
+    def leave_soon(self):
+        """Leaves once no more answers come."""
+        self.bridge.times.set(("client", id(self)), QUIET, self.leave)
+
+    def leave(self):
+        """Leaves, where all is answered."""
+        waits = self.stream.waiting and len(self.stream.waiting) <= MOST_WAITING
+        if waits or self.relay.is_awaited(self):
+            self.leave_soon()
+        else:
+            self.bridge.clients.discard(self)
+            self.stream.leave()
+            self.connection.close()
+
+
+def shown(line):
+    """A line as it is shown: not too long, and nothing in it that a terminal obeys."""
+    text = line[:100].decode(errors="replace")
+    return "".join(it if it.isprintable() else "?" for it in text)

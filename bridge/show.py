@@ -1,0 +1,205 @@
+"""What the scenes of bridge/telephones play with: bridges that run, the network around them, and mobiles."""
+import json
+import re
+import time
+
+from core_network import CELLS, GATEWAY, GATEWAY_TERMINAL, ask
+from handset import Handset
+from harness import FOLDER, Bridge, Unmet, must
+from telephone import Telephone
+
+# Subscribers that the register knows, with their numbers, and one that it doesn't know.
+KNOWN, ANOTHER, THIRD, UNKNOWN = "001010000000001", "001010000000002", "001010000000003", "001010000000099"
+NUMBERS = {KNOWN: "1001", ANOTHER: "1002", THIRD: "1003"}
+# How many seconds the end of a call may take on all sides.
+EMPTY = 40
+# How many frames of two seconds' speech, which are a hundred, have to be said, and how many may be lost; and how often they may
+# speak until it is so.
+LEAST_SAID, MOST_LOST, TRIES = 90, 10, 5
+
+
+class Run(Bridge):
+    """A bridge of a network that runs, by its CONFIG. Over M3UA it has another port and another point code."""
+
+    def __init__(self, program, room, settings, transport="ipa", name="network"):
+        text = (FOLDER / f"{name}.toml").read_text().replace('["./lab", "live"]', json.dumps([str(program), "live"]))
+        if transport == "m3ua":
+            text = text.replace('"ipa"', '"m3ua"').replace("port = 5000", "port = 2905").replace('"0.42.1"', '"0.42.2"')
+        self.site = FOLDER / f"{name}_site.toml"
+        (room / f"{name}.toml").write_text(text)
+        (room / self.site.name).write_text(self.site.read_text())
+        preload = f"LD_PRELOAD={(settings or {}).get('LD_PRELOAD', '')}"
+        self.run(["env", preload, FOLDER / "network", room / f"{name}.toml", "--log", f"{name}.log"], room)
+
+    def is_empty(self):
+        """Waits until no channel is in use."""
+        end = time.monotonic() + EMPTY
+        at = len(self.out.lines)
+        while time.monotonic() < end:
+            self.ask("calls")
+            time.sleep(0.3)
+            came, at = self.out.lines[at:], len(self.out.lines)
+            if "no channel is in use" in came:
+                return
+        raise Unmet(f"channels stay in use: {came}")
+
+    def number_of(self, place):
+        """The number of the call that was last on a channel, or was to go there; a channel as 0/0/1."""
+        for line in reversed(self.out.lines):
+            if found := re.match(rf"event (?:open (\d+)|take (\d+) \w+) {place} -> done", line):
+                return int(found[1] or found[2])
+        raise Unmet(f"no call was on {place}")
+
+    def target_of(self, number):
+        """The timeslot of the channel that a call is to go to in cell 1."""
+        for line in reversed(self.out.lines):
+            if found := re.match(rf"event take {number} \w+ 1/0/(\d) -> done", line):
+                return int(found[1])
+        raise Unmet(f"call {number} has no target")
+
+    def known(self, word):
+        """What the bridge says of a word, in its answer to `network`."""
+        self.ask("network")
+        time.sleep(0.2)
+        lines = [line for line in self.out.lines if line.startswith("centre: ")]
+        return re.search(rf"{word}: [^;]*", lines[-1])[0]
+
+
+class Show:
+    """What the scenes play with: the bridge, with a second one where calls go there; the programs around it; the radio."""
+
+    def __init__(self, run, around, radio, second=None):
+        self.run, self.around, self.radio, self.second = run, around, radio, second
+        self.calls = 0
+
+    # Mobiles that register
+
+    def mobile(self, imsi, cell=0):
+        """A mobile in a cell, which has heard where it is (system information 3)."""
+        mobile = Handset(self.radio, imsi, CELLS[cell].arfcn)
+        must(mobile.broadcast(0x1B), f"cell {cell} has no system information")
+        return mobile
+
+    def begin(self, mobile, identity=None):
+        """A mobile asks for a channel, and makes itself known there by LOCATION UPDATING REQUEST."""
+        self.calls += 1
+        mobile.seize()
+        mobile.open(mobile.update(identity))
+
+    def leaves(self, mobile, cell=0):
+        """A mobile hears CHANNEL RELEASE, and leaves; its channel is free then."""
+        mobile.leave()
+        self.freed(mobile, cell)
+
+    def freed(self, mobile, cell=0):
+        """A mobile's channel is free."""
+        self.run.expect(f"^event released {cell}/0/{mobile.timeslot} -> done$")
+
+    def registers(self, imsi, cell=0):
+        """A mobile registers, from its burst to the end of its channel."""
+        self.calls += 1
+        mobile = self.mobile(imsi, cell)
+        mobile.register()
+        self.freed(mobile, cell)
+
+    # Telephones that call
+
+    def telephone(self, imsi, cell=0):
+        """A telephone in a cell, which has heard where it is, and registers."""
+        it = Telephone(self.radio, imsi, NUMBERS[imsi], CELLS[cell].arfcn)
+        must(it.broadcast(0x1B), f"cell {cell} has no system information")
+        it.register(CELLS[cell].lac)
+        return it
+
+    def off(self, *telephones):
+        """Telephones are switched off."""
+        for it in telephones:
+            it.vanish()
+            self.radio.hearers.remove(it.overhear)
+
+    def bridge_of(self, telephone):
+        """The bridge in whose cell a telephone is, and the channel that it has there, as 0/0/1."""
+        cell = next(number for number, it in enumerate(CELLS) if it.arfcn == telephone.arfcn)
+        half = "" if telephone.half is None else f"/{telephone.half}"
+        run, own = (self.run, cell) if cell < 2 else (self.second, 0)
+        return run, f"{own}/0/{telephone.timeslot}{half}"
+
+    def number_of(self, telephone):
+        """The number of a telephone's call in its bridge."""
+        run, place = self.bridge_of(telephone)
+        return run.number_of(place)
+
+    def ask(self, telephone, line):
+        """An operator of a telephone's bridge gives a line, in which CALL stands for the number of its call; that number."""
+        run, place = self.bridge_of(telephone)
+        number = run.number_of(place)
+        run.ask(line.replace("CALL", str(number)))
+        return number
+
+    def speak(self, one, two, during=None, seconds=2.0):
+        """Two telephones speak for so long, and something is done meanwhile; how many frames were said, and how many of them
+        each didn't hear."""
+        begun = one.voice.said, two.voice.said
+        if during:
+            during()
+        self.radio.wait(seconds)
+        ended = one.voice.said, two.voice.said
+        # the last frames are on their way
+        self.radio.wait(0.6)
+        lost = tuple(
+            end - begin - len({number for number in hearer.voice.heard if begin < number <= end})
+            for begin, end, hearer in zip(begun, ended, (two, one))
+        )
+        said = tuple(end - begin for begin, end in zip(begun, ended))
+        text = f"of {said[0]} frames {lost[0]} aren't heard, of {said[1]} the other way {lost[1]}"
+        print(f"bridge/telephones:   {text}", flush=True)
+        return said, lost
+
+    def hear(self, one, two, during=None):
+        """Two telephones speak for two seconds, and hear one another, but for a few frames. A busy machine is given more time.
+        """
+        for _ in range(TRIES):
+            said, lost = self.speak(one, two, during)
+            if min(said) >= LEAST_SAID and max(lost) <= MOST_LOST:
+                return
+            during = None
+        raise Unmet(f"{lost} frames of {said} are lost")
+
+    def from_now(self):
+        """What the bridges have said up to now isn't waited for any more."""
+        for run in filter(None, (self.run, self.second)):
+            for lines in (run.out, run.said):
+                lines.at = len(lines.lines)
+
+    def expect(self, telephone, *patterns, seconds=30):
+        """Waits for lines of a telephone's bridge, while speech goes on."""
+        run, _ = self.bridge_of(telephone)
+        self.expect_of(run, *patterns, seconds=seconds)
+
+    def expect_of(self, run, *patterns, seconds=30):
+        """Waits for lines of a bridge, while speech goes on."""
+        for pattern in patterns:
+            end = time.monotonic() + seconds
+            while True:
+                try:
+                    run.out.expect(pattern, 0)
+                    break
+                except Unmet:
+                    if time.monotonic() > end:
+                        raise
+                self.radio.wait(0.05)
+
+    def empty(self):
+        """Nothing is left: neither in the books nor in the gateway."""
+        for run in filter(None, (self.run, self.second)):
+            run.is_empty()
+        end = time.monotonic() + EMPTY
+        while used := gateway_connections():
+            if time.monotonic() > end:
+                raise Unmet(f"the gateway has connections yet: {used}")
+            self.radio.wait(0.5)
+
+
+def gateway_connections():
+    """The connections that the bridges' media gateway has."""
+    return re.findall(r"CONN: .*", ask(GATEWAY_TERMINAL, "show mgcp stats", GATEWAY))

@@ -1,0 +1,49 @@
+"""What operators are shown of channels: how the controller's book has each, and how its station does."""
+from calls import HELD, OFF, ON, PENDING
+from stations import ACTIVATING, CLOSING, LEAVING, RELEASING
+from stations import ON as STATION_ON
+
+# How a station has a channel, for each state that the book has it in; None where the channel is at rest.
+AGREEING = {
+    HELD: (None, CLOSING),
+    PENDING: (ACTIVATING,),
+    ON: (STATION_ON,),
+    OFF: (LEAVING, RELEASING),
+    None: (None, CLOSING),
+}
+
+
+class Views:
+    """What is shown."""
+
+    def __init__(self, relay):
+        self.relay = relay
+
+    def channels(self):
+        """A line for each channel that the book or its station has in use, and one for each call whose channel is lost."""
+        calls, stations = self.relay.calls, self.relay.places
+        known = set(calls.channels)
+        for station in stations.values():
+            known |= {station.channel(number) for number in station.channels}
+        lines = [self.channel(channel) for channel in sorted(known)]
+        return [*lines, *self.relay.lost.known()] or ["no channel is in use"]
+
+    def channel(self, channel):
+        """What is known of a channel, in one line."""
+        used, station = self.relay.calls.channels.get(channel), self.relay.places.get(channel[:2])
+        here = f"{used.state}{self.of_call(used.call)} since {used.since}" if used else "free"
+        use = station and station.channels.get(channel.number)
+        if station is None or station.link is None:
+            there = "not there"
+        else:
+            there = f"{use.state} since {use.since}" if use else "at rest"
+        agrees = (use and use.state) in AGREEING[used and used.state]
+        return f"channel {channel}: {here}; station: {there}{'' if agrees else '; THEY DIFFER'}"
+
+    def of_call(self, number):
+        """A channel's call in words, with its attempt at handover."""
+        call = self.relay.calls.calls.get(number)
+        if call is None:
+            return ""
+        to = f" to {call.target}" if call.target else ""
+        return f" for call {number}" + (f" ({call.kind} {call.stage}{to})" if call.kind else "")
