@@ -80,10 +80,12 @@ Attempts that follow one another, and one that is open at the end.
 A trace without an event, and one that isn't there.
 
   $ printf '' >run.trace
-  $ ./lab audit examples/two_cells.toml run.trace
+  $ ./lab audit examples/two_cells.toml run.trace 2>errors
   attempts 0
   held -
   same
+  $ cat errors
+  run.trace: no events: is this a trace?
   $ ./lab audit examples/two_cells.toml nothing.trace 2>errors
   file nothing.trace
   [2]
@@ -327,6 +329,14 @@ The traces of the book's tests. In those with attempts of several calls each of 
   held -
   same
   $ ./lab audit tests/book/site.toml tests/book/undone_the_call_opens_in_the_list.trace
+  attempts 1
+  held -
+  same
+
+Of a trace of over 50,000 events, too.
+
+  $ (cat undone.trace; for _ in $(seq 50000); do echo 'event look 9 -> refused 1'; done) >long.trace
+  $ ./lab audit examples/two_cells.toml long.trace
   attempts 1
   held -
   same

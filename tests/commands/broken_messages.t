@@ -5,6 +5,6 @@ that run them.
   $ tests/broken_messages ./lab
   2006 broken messages, 0 read otherwise than expected
   $ tests/changed_scripts ./lab
-  90 changed scripts met, 0 not
+  330 changed scripts met, 0 not
   $ tests/changed_scripts ./lab --random 1 4
   4 changed scripts met, 0 not

@@ -425,7 +425,7 @@ The refusals, by their numbers in a trace.
   $ ./lab explain refused 2
   CallExists: the call is there already
   $ ./lab explain refused 3
-  WrongPhase: the call or its attempt hasn't come so far, or is past it
+  WrongPhase: no attempt is open, or the call or its attempt hasn't come so far, or is past it
   $ ./lab explain refused 4
   NoChannel: the site names no such traffic channel
   $ ./lab explain refused 5

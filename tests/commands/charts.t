@@ -133,3 +133,19 @@ Behind the ten thousandth answer (limit_of_answers.t) stands what was dropped.
   sim limit # what still waited was dropped
   $ grep -c '>sim limit<' run.svg
   1
+
+Nine calls are to leave for another controller at once, and are taken back. Eight bars stand beside one another, each 16
+behind the one before it; the ninth lies on the eighth. (Headings have 16 letters of 7, so the first is at 12 + 112 + 96.)
+
+  $ sed 's/tch = \[2, 3\]/tch = [1, 2, 3, 4, 5, 6, 7]/; s/tch = \[\]/tch = [1, 2]/' tests/two_cells/site.toml >nine.toml
+  $ open() { printf 'open %d %d 0 %d\nabis %d 0 0822010%x080000\n' $1 $2 $3 $2 $((8 + $3)); }
+  $ for call in 1 2 3 4 5 6 7; do open $call 0 $call; done >nine.txt
+  $ for call in 8 9; do open $call 1 $((call - 7)); done >>nine.txt
+  $ for call in $(seq 9); do echo handover $call 64; done >>nine.txt
+  $ for call in $(seq 9); do echo undo $call; done >>nine.txt
+  $ ./lab run nine.toml nine.txt --chart run.svg >printed
+  $ grep -c '^event require . -> done$' printed; grep -c '^event undo . asked -> record ' printed
+  9
+  9
+  $ sed -n 's/^<rect x="\([0-9]*\)" y="[0-9]*" width="11" height="[0-9]*" fill="url(#hatched)".*/\1/p' run.svg | tail -n 9 | paste -sd ' '
+  220 236 252 268 284 300 316 332 332

@@ -21,7 +21,7 @@ A number that has no words is refused in one line on standard error, and so is o
   *string; N is a number from 1 to 9 (glob)
   [2]
   $ ./lab explain cause rr 256 2>&1 >>printed
-  *N is a number from 0 to 255 (glob)
+  *N is a number from 0 to 255, or from 0x0 to 0xff (glob)
   [2]
   $ ./lab explain fault a x 2>&1 >>printed
   *N is a number from 1 to 6, on rr from 1 to 4 (glob)
@@ -96,5 +96,30 @@ Which arguments faults have (CODECS): on rr, on A, on Abis.
   [2]
   $ argument abis 6 0
   *fault abis 6 has no argument* (glob)
+  [2]
+  $ cat printed
+
+A cause is read in hexadecimal, too.
+
+  $ ./lab explain cause abis 0x20
+  equipment failure
+  $ ./lab explain cause a 0x21
+  no radio resource available
+  $ ./lab explain cause rr 0xA
+  frequency not implemented
+  $ ./lab explain cause abis 0xff
+  reserved
+  $ hexadecimal() { ./lab explain cause abis "$1" 2>&1 >>printed; }
+  $ hexadecimal 0x100
+  *N is a number from 0 to 255, or from 0x0 to 0xff (glob)
+  [2]
+  $ hexadecimal 0x
+  *N is a number from 0 to 255, or from 0x0 to 0xff (glob)
+  [2]
+  $ hexadecimal 0x+2
+  *N is a number from 0 to 255, or from 0x0 to 0xff (glob)
+  [2]
+  $ hexadecimal 20h
+  *N is a number from 0 to 255, or from 0x0 to 0xff (glob)
   [2]
   $ cat printed

@@ -26,8 +26,16 @@ What commands are for, and what their words are. No line has more than 100 colum
   $ grep -qF -- 'The script file' help
   $ grep -qF -- '--peer <SITE>' help
   $ grep -q '^  mobile CELL TRX TN HABIT ' help
-  $ grep -q '^  double CELL TRX TN ' help
-  $ grep -q '^  cut CELL TRX TN N ' help
+
+It lists each line of a script, with its words. The program names them where they can't be read: the first word of all lines
+behind one that is none, and the words of a line behind its first word alone. A line `sim` has no other word.
+
+  $ echo frob | ./lab live examples/two_cells.toml 2>said >/dev/null
+  $ sed 's/.*begins with \(.*\), or with.*/\1/; s/,//g; s/ or / /' said | tr ' ' '\n' >keywords
+  $ ./lab live examples/two_cells.toml <keywords 2>said >/dev/null
+  $ { echo sim; sed -n 's/.* is missing in //p' said; } >forms
+  $ [ "$(wc -l <forms)" -ge 16 ] && [ "$(wc -l <forms)" -eq "$(wc -l <keywords)" ]
+  $ while read -r form; do grep -q "^  $form " help || echo "$form is missing"; done <forms
   $ grep -qF -- 'Statuses: 0 ' help
   $ grep -qF -- 'As in: bsc_lab run ' help
 
@@ -148,38 +156,3 @@ What commands are for, and what their words are. No line has more than 100 colum
   $ ./lab -V >help
   $ awk 'length > 100' help
   $ grep -qF -- 'bsc_lab 0.' help
-
-The help of encode lists each message that decode prints, with its fields in their order.
-
-  $ ./lab help encode | tr -s ' ' >help
-  $ sed -n '/^Messages of rr /,/^$/p' help >rr
-  $ grep -q '^ HANDOVER COMMAND arfcn ncc bcc tn tsc carrier reference atc power$' rr
-  $ grep -q '^ HANDOVER COMPLETE cause$' rr
-  $ grep -q '^ HANDOVER FAILURE cause$' rr
-  $ grep -q '^ CHANNEL RELEASE cause$' rr
-  $ grep -q '^ PHYSICAL INFORMATION ta$' rr
-  $ grep -q '^ MEASUREMENT REPORT ba dtx full ba3g valid sub si23 qfull qsub count n' rr
-  $ sed -n '/^Messages of a /,/^$/p' help >a
-  $ grep -q '^ HANDOVER REQUEST ACKNOWLEDGE layer3$' a
-  $ grep -q '^ HANDOVER COMMAND layer3$' a
-  $ grep -q '^ HANDOVER COMPLETE rr$' a
-  $ grep -q '^ HANDOVER FAILURE cause rr$' a
-  $ grep -q '^ HANDOVER PERFORMED cause cell$' a
-  $ grep -q '^ HANDOVER REQUIRED REJECT cause$' a
-  $ grep -q '^ HANDOVER DETECT (none)$' a
-  $ grep -q '^ CLEAR COMMAND cause$' a
-  $ grep -q '^ CLEAR COMPLETE (none)$' a
-  $ grep -q '^ CLEAR REQUEST cause$' a
-  $ grep -q '^ HANDOVER REQUEST channel encryption classmark serving target$' a
-  $ grep -q '^ HANDOVER REQUIRED cause response cells$' a
-  $ sed -n '/^Messages of abis /,/^$/p' help >abis
-  $ grep -q '^ DATA REQUEST tn link layer3$' abis
-  $ grep -q '^ DATA INDICATION tn link layer3$' abis
-  $ grep -q '^ CHANNEL ACTIVATION tn activation mode reference$' abis
-  $ grep -q '^ CHANNEL ACTIVATION ACK tn frame$' abis
-  $ grep -q '^ CHANNEL ACTIVATION NACK tn cause$' abis
-  $ grep -q '^ CONNECTION FAILURE INDICATION tn cause$' abis
-  $ grep -q '^ HANDOVER DETECTION tn delay$' abis
-  $ grep -q '^ MEASUREMENT RESULT tn number uplink power layer3$' abis
-  $ grep -q '^ RF CHANNEL RELEASE tn$' abis
-  $ grep -q '^ RF CHANNEL RELEASE ACK tn$' abis

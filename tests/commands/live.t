@@ -12,7 +12,7 @@ A controller is given the lines of standard input as they come, and prints what 
 It does so before the next line comes, and whatever the pieces are in which lines come.
 
   $ mkfifo lines
-  $ ./lab live examples/two_cells.toml <lines >came &
+  $ ./lab live examples/two_cells.toml >came <lines &
   $ exec 3>lines
   $ printf 'open 1 0 0 3\nope' >&3
   $ until grep -q '^out' came; do sleep 0.1; done; cat came
@@ -135,10 +135,10 @@ Words and states stand with the lines, as in a run; the capture is the run's, to
 
 The capture grows line by line.
 
-  $ ./lab live examples/two_cells.toml --pcap live.pcap <lines >came &
+  $ ./lab live examples/two_cells.toml --pcap grown.pcap >came <lines &
   $ exec 3>lines
   $ printf 'open 1 0 0 3\n' >&3
-  $ until grep -q '^out' came; do sleep 0.1; done; wc -c <live.pcap
+  $ until [ "$(cat grown.pcap 2>/dev/null | wc -c)" -gt 24 ]; do sleep 0.1; done; wc -c <grown.pcap
   95
   $ exec 3>&-; wait
 
@@ -160,7 +160,7 @@ A capture that can't be opened or written, or that is the site, is named.
   end channels=0 calls=0 references=0 timers=0
   [2]
   $ cat errors
-  /dev/full: no space left
+  /dev/full: no space left; the capture ends, and the controller goes on
   $ ./lab live 2>&1 >/dev/null
   error: the following required arguments were not provided:* (glob)
   [2]
@@ -199,3 +199,16 @@ written: of comments its header.
   [2]
   $ wc -c <closed.pcap
   0
+
+A capture that can't be written any more ends alone: lines are taken to their end.
+
+  $ ./lab live examples/two_cells.toml --pcap /dev/full <examples/handover_returns.txt 2>errors >came
+  [2]
+  $ cmp came examples/handover_returns.trace
+  $ cat errors
+  /dev/full: no space left; the capture ends, and the controller goes on
+
+There is no second controller, so none is named by what may begin a line.
+
+  $ echo frob | ./lab live examples/two_cells.toml 2>&1 >/dev/null
+  standard input:1: a line begins with [a-z, ]+, or with #, found frob (re)

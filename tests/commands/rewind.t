@@ -62,6 +62,17 @@ isn't yet; in the third call 2 is refused the channel that the attempt holds.
   $ cat errors
   undone.trace: no attempt that is undone later opens in line 100
 
+Of a long trace, too: 5,000 events of others stand between the undo and the release.
+
+  $ grep -v released undone.trace >long.trace
+  $ for _ in $(seq 5000); do echo 'event look 9 -> refused 1'; done >>long.trace
+  $ grep released undone.trace >>long.trace
+  $ ./lab rewind examples/two_cells.toml long.trace 6
+  others 5003
+  settled yes
+  held -
+  same
+
 Nothing opens in a line that no trace has.
 
   $ printf '' >run.trace
@@ -69,7 +80,7 @@ Nothing opens in a line that no trace has.
   no attempt
   [2]
   $ cat errors
-  run.trace: no attempt that is undone later opens in line 1
+  run.trace: no events: is this a trace?
   $ printf 'event look 1 -> done\nevent look 01 -> done' >run.trace
   $ ./lab rewind examples/two_cells.toml run.trace 1 2>errors
   line 2
@@ -85,9 +96,11 @@ Nothing opens in a line that no trace has.
   line 2
   [2]
   $ printf '\n\n2: event look 1 -> refused 1\n' >run.trace
-  $ ./lab rewind examples/two_cells.toml run.trace 1 2>/dev/null
+  $ ./lab rewind examples/two_cells.toml run.trace 1 2>errors
   line 3
   [2]
+  $ cat errors
+  run.trace:3: a line of the trace of two controllers, and rewind takes that of one
   $ printf 'event look 1 -> done\n' >run.trace
   $ ./lab rewind examples/two_cells.toml run.trace 1 2>errors
   line 1

@@ -218,7 +218,7 @@ Of a text that is no TOML the line and the column are said; a byte order mark is
 
 The site is looked at before the script.
 
-  $ printf 'no line' >script.txt
+  $ printf 'no line\n' >script.txt
   $ printf '' >refused.toml
   $ ./lab run refused.toml script.txt 2>/dev/null
   site 2 handover
@@ -240,6 +240,12 @@ The site is looked at before the script.
   $ ./lab run refused.toml script.txt 2>/dev/null
   site 2 cell
   [2]
+  $ sed -i '1i cell = []' refused.toml
+  $ ./lab run refused.toml script.txt 2>errors
+  site 3 cell
+  [2]
+  $ cat errors
+  refused.toml: cell: an array of 0 entries isn't an array of 1 to 64 tables
   $ cat >refused.toml <<'END'
   > [handover]
   > window = 2

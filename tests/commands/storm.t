@@ -45,6 +45,24 @@ Two cells with two traffic channels each:
   channels in use 0
   audit same
 
+The same where a timeslot of each cell carries halves, too: a half counts as no channel.
+
+  $ sed 's/tch = \[2, 3\]/tch = [2, 3], half = [3]/' tests/storms/two_cells.toml >halves.toml
+  $ grep -c half halves.toml
+  2
+  $ ./lab storm halves.toml --workers 2 --calls 2
+  calls 2
+  attempts 2
+  completed 1
+  undone 1
+  channels in use 0
+  audit same
+  $ ./lab storm halves.toml --workers 1 --calls 3 2>errors
+  site too small
+  [2]
+  $ cat errors
+  halves.toml: cell 0 has 2 full rate channels, and needs 4
+
 The widest site, 64 cells with four TRX each: of its 31 traffic channels a cell needs 30 for the 15 calls that begin there.
 
   $ printf '[handover]\nwindow = 2\nmargin = 3\nminimum = 10\n' >wide.toml
@@ -142,6 +160,24 @@ Words that ask for none: there are 1 to 16 workers, and 1 to 1,024 calls.
   *'examples/one_call.txt'*bsc_lab storm --workers <N> --calls <M> <SITE>* (glob)
   [2]
   $ cat printed
+
+A worker needs a thread. The system refuses one where the user has as many processes and threads as the limit says. Root may
+have any number, so root becomes somebody else, who may open the same files.
+
+  $ setpriv_if_root() { if [ "$(id -u)" = 0 ]; then setpriv --reuid=54321 --inh-caps=+dac_override --ambient-caps=+dac_override "$@"; else "$@"; fi; }
+
+There is no thread for the first worker, and none for the last of four, where the first three have ended:
+
+  $ setpriv_if_root prlimit --nproc=1 ./lab storm examples/eight_cells.toml --workers 4 --calls 8 2>errors
+  office
+  [2]
+  $ cat errors
+  the office of the workers failed: no thread can be started
+  $ setpriv_if_root prlimit --nproc=4 ./lab storm examples/eight_cells.toml --workers 4 --calls 8 2>errors
+  office
+  [2]
+  $ cat errors
+  the office of the workers failed: no thread can be started
 
 Standard output that can't be written:
 

@@ -3,21 +3,21 @@ A script meets its comments, or the first line that isn't met is named, with wha
 
 Nothing is looked at.
 
-  $ printf 'open 1 0 0 3\nclear 1' >script.txt
+  $ printf 'open 1 0 0 3\nclear 1\n' >script.txt
   $ ./lab test examples/two_cells.toml script.txt
   1..1
   ok 1 - script.txt
 
 Any lines.
 
-  $ printf 'open 1 0 0 3\n#> in open 1 0 0 3\n#> ..\nclear 1\n#> ..\n#> end channels=1 calls=0 references=0 timers=0' >script.txt
+  $ printf 'open 1 0 0 3\n#> in open 1 0 0 3\n#> ..\nclear 1\n#> ..\n#> end channels=1 calls=0 references=0 timers=0\n' >script.txt
   $ ./lab test examples/two_cells.toml script.txt
   1..1
   ok 1 - script.txt
 
 What comes of the first line differs, and of the second.
 
-  $ printf 'open 1 0 0 3\n\n#> in open 1 0 0 3\n#> event open 1 0/0/2 -> done\n#> ..\nclear 1\n#> no' >script.txt
+  $ printf 'open 1 0 0 3\n\n#> in open 1 0 0 3\n#> event open 1 0/0/2 -> done\n#> ..\nclear 1\n#> no\n' >script.txt
   $ ./lab test examples/two_cells.toml script.txt
   1..1
   not ok 1 - script.txt
@@ -28,7 +28,7 @@ What comes of the first line differs, and of the second.
 
 More comes than is expected.
 
-  $ printf 'open 1 0 0 3\nclear 1\n#> in clear 1\n# note' >script.txt
+  $ printf 'open 1 0 0 3\nclear 1\n#> in clear 1\n# note\n' >script.txt
   $ ./lab test examples/two_cells.toml script.txt
   1..1
   not ok 1 - script.txt
@@ -37,9 +37,20 @@ More comes than is expected.
   # came: event look 1 -> record 0/0/3 pending
   [1]
 
+The line is that of the last comment that expects something.
+
+  $ printf 'open 1 0 0 3\n#> in open 1 0 0 3\n\n#> event open 1 0/0/3 -> done\n# note\n\nclear 1\n' >script.txt
+  $ ./lab test examples/two_cells.toml script.txt
+  1..1
+  not ok 1 - script.txt
+  # line 4
+  # expected nothing more
+  # came: out abis 0 0 0821010b0300060400010801
+  [1]
+
 A line that doesn't come.
 
-  $ printf 'open 1 0 0 3\n#> ..\n#> out a 1 00\nclear 1' >script.txt
+  $ printf 'open 1 0 0 3\n#> ..\n#> out a 1 00\nclear 1\n' >script.txt
   $ ./lab test examples/two_cells.toml script.txt
   1..1
   not ok 1 - script.txt
@@ -50,7 +61,7 @@ A line that doesn't come.
 
 Nothing comes before the first line.
 
-  $ printf '#> in open 1 0 0 3\nopen 1 0 0 3' >script.txt
+  $ printf '#> in open 1 0 0 3\nopen 1 0 0 3\n' >script.txt
   $ ./lab test examples/two_cells.toml script.txt
   1..1
   not ok 1 - script.txt
@@ -61,14 +72,14 @@ Nothing comes before the first line.
 
 A script without lines has its end.
 
-  $ printf '#> end channels=0 calls=0 references=0 timers=0' >script.txt
+  $ printf '#> end channels=0 calls=0 references=0 timers=0\n' >script.txt
   $ ./lab test examples/two_cells.toml script.txt
   1..1
   ok 1 - script.txt
 
 A line can't be read.
 
-  $ printf 'open 1 0 0 3\n #> in open 1 0 0 3' >script.txt
+  $ printf 'open 1 0 0 3\n #> in open 1 0 0 3\n' >script.txt
   $ ./lab test examples/two_cells.toml script.txt 2>/dev/null
   1..1
   not ok 1 - script.txt

@@ -89,8 +89,8 @@ All scripts of the tests: none differs. Where no release is acknowledged by a sc
 settled.
 
   $ ./lab test tests/two_cells/site.toml $(find tests/two_cells -name '*.txt' | sort) --undo-everywhere | tail -2
-  1..263
-  # same 120, held 0, not settled 143, differ 0
+  1..267
+  # same 124, held 0, not settled 143, differ 0
   $ ./lab test tests/two_controllers/site.toml $(find tests/two_controllers -name '*.txt' | sort) --peer tests/two_controllers/peer.toml --undo-everywhere | tail -2
   1..95
   # same 95, held 0, not settled 0, differ 0

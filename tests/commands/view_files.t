@@ -256,6 +256,25 @@ file written all the same.
   $ wc -c <run.pcap
   287
 
+So is it where the audit differs, which is printed as well.
+
+  $ cat >held.txt <<'END'
+  > open 1 0 0 3
+  > abis 0 0 0822010b081234
+  > handover 1 1
+  > open 2 1 1 3
+  > undo 1
+  > abis 1 1 0833010b
+  > END
+  $ ./lab run examples/two_cells.toml held.txt --audit --chart /dev/full >printed
+  /dev/full: no space left* (glob)
+  [2]
+  $ tail -n 4 printed
+  end channels=1 calls=1 references=0 timers=0
+  attempts 1
+  held 14
+  differs
+
 So is one behind a chart of over 8 KiB.
 
   $ for number in $(seq 300); do echo handover 1 99; done >script.txt
