@@ -5,7 +5,7 @@ use Rattle.cell_table.specs.Site.{SiteView}
 use Rattle.radio_book.specs.State.{State}
 use Rattle.radio_book.specs.declared.event.Event.{Event}
 use Rattle.radio_book.specs.declared.event.Reply.{Reply}
-use Rattle.radio_desk.specs.declared.seat.Receipt.{Receipt}
+use Rattle.radio_desk.specs.Receipts.{Receipt}
 use Rattle.radio_desk.specs.Desk.{DeskState}
 use Rattle.ho_procedure.specs.declared.exchange.Inbound.{Inbound}
 use Rattle.ho_procedure.specs.Sent.{Sent}

@@ -2,13 +2,12 @@
 use Rattle.std.proofs.Common.{◌≡◌, ℕ, ◌+◌, List, [], ◌∷◌, ◌++◌, length, Bool, true, false, true≢false, refl, ap, sym, ◌∙◌, subst, arith, append_assoc, length-append}
 use Rattle.std.proofs.lemmas.List.{append-nil, map-append, length-map}
 use Rattle.cell_table.specs.Site.{SiteView}
-use Rattle.radio_desk.specs.declared.seat.Receipt.{Receipt}
+use Rattle.radio_desk.specs.Receipts.{Receipt, receipted}
 use Rattle.ho_procedure.specs.declared.exchange.Inbound.{Inbound}
 use Rattle.ho_procedure.specs.Claims.{Entry}
 use Rattle.ho_procedure.specs.Sent.{Sent}
 use Rattle.ho_procedure.specs.Plan.{Step, entries_of, messages_of}
 use Rattle.ho_procedure.proofs.Going.{entries_of-append, messages_of-append, reports_after-append}
-use Rattle.radio_desk.specs.Receipts.{receipted}
 use Rattle.call_worker.specs.declared.worker.Turn.{Turn}
 use Rattle.call_worker.specs.declared.letter.Letter.{Letter}
 use Rattle.call_worker.specs.declared.letter.Letter.TheVariants.{Input, Last}

@@ -3,9 +3,8 @@ use Rattle.std.specs.Prelude.{◌≡◌, ◌≢◌, ℕ, List, [], ◌∷◌, �
 use Rattle.std.specs.List.{flat_map}
 use Rattle.radio_book.specs.State.{State}
 use Rattle.radio_book.specs.Run.{Leads}
-use Rattle.radio_desk.specs.declared.seat.Receipt.{Receipt}
+use Rattle.radio_desk.specs.Receipts.{Receipt, IsRising}
 use Rattle.radio_desk.specs.Desk.{DeskState}
-use Rattle.radio_desk.specs.Receipts.{IsRising}
 use Rattle.ho_procedure.specs.Sent.{Sent}
 use Rattle.receipt_check.specs.declared.CloseFault.{CloseFault}
 use Rattle.receipt_check.specs.declared.CloseFault.TheVariants.{Missing, Twice, Count, Opening, NoMemory}

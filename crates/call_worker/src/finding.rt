@@ -1,6 +1,6 @@
 //! Which worker an input is for.
 ghost use Rattle.std.specs.Prelude.{◌≡◌, ◌≢◌, ◌↔◌, ◌++◌, ℕ, List, Err, IfOk, OnErr};
-ghost use Rattle.radio_desk.specs.declared.seat.Receipt.{Receipt};
+ghost use Rattle.radio_desk.specs.Receipts.{Receipt};
 ghost use Rattle.rsl_messages.specs.declared.fault.RslFault.{RslFault};
 ghost use Rattle.rsl_messages.specs.declared.fault.RslFault.TheVariants.{NoMemory};
 ghost use Rattle.rsl_messages.specs.declared.message.Rsl.{Rsl};

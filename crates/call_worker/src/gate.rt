@@ -37,7 +37,7 @@ pub struct Gated<R: Wait + Drop, G: Gate + Drop, A: Allocator = Global> {
 
 impl<R: Wait + Drop, G: Gate + Drop, A: Allocator> Model for Gated<R, G, A> {
     ghost use Rattle.std.specs.Prelude.{List};
-    ghost use Rattle.radio_desk.specs.declared.seat.Receipt.{Receipt};
+    ghost use Rattle.radio_desk.specs.Receipts.{Receipt};
 
     ghost Value = { List Receipt };
 

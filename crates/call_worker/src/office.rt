@@ -2,8 +2,7 @@
 ghost use Rattle.std.specs.Prelude.{◌≡◌, ◌↔◌, ◌++◌, ◌<◌, ◌≤◌, [], ℕ, List, map, All, Err, IfOk, IfErr, OnOk, OnErr, vec_len, vec_capacity};
 ghost use Rattle.std.specs.List.{flat_map};
 ghost use Rattle.radio_book.specs.Run.{Leads};
-ghost use Rattle.radio_desk.specs.declared.seat.Receipt.{Receipt};
-ghost use Rattle.radio_desk.specs.Receipts.{IsRising};
+ghost use Rattle.radio_desk.specs.Receipts.{Receipt, IsRising};
 ghost use Rattle.rsl_messages.specs.declared.fault.RslFault.{RslFault};
 ghost use Rattle.receipt_check.specs.Gathering.{Gathers};
 ghost use Rattle.call_worker.specs.States.{new_worker};

@@ -14,7 +14,7 @@ use Rattle.radio_book.specs.Owed.{is_owed}
 use Rattle.radio_book.specs.Run.{Leads}
 use Rattle.radio_book.specs.Choice.{IsFreeIn, TakesFree, OpensFree, ReservesFree}
 use Rattle.radio_book.specs.Choice as free
-use Rattle.radio_desk.specs.declared.seat.Receipt.{Receipt}
+use Rattle.radio_desk.specs.Receipts.{Receipt}
 use Rattle.radio_desk.specs.declared.desk.DeskFault.{DeskFault}
 use Rattle.radio_desk.specs.declared.desk.DeskFault.TheVariants.{Foreign, NoMemory}
 use Rattle.radio_desk.specs.Desk.{DeskState, IsJudged, IsSameDesk}

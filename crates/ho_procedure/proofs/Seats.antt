@@ -9,9 +9,8 @@ use Rattle.radio_book.specs.declared.event.Event.{Event}
 use Rattle.radio_book.specs.declared.event.Reply.{Reply}
 use Rattle.radio_desk.specs.declared.desk.DeskFault.{DeskFault}
 use Rattle.radio_desk.specs.declared.desk.DeskFault.TheVariants.{Foreign}
-use Rattle.radio_desk.specs.declared.seat.Receipt.{Receipt}
+use Rattle.radio_desk.specs.Receipts.{Receipt, receipted, IsRising, IsAbove, IsSeated, Joined}
 use Rattle.radio_desk.specs.Desk.{DeskState, HoldsLast, IsForeign, IsJudged}
-use Rattle.radio_desk.specs.Receipts.{receipted, IsRising, IsAbove, IsSeated, Joined}
 use Rattle.ho_procedure.specs.Seats.{IsLastPlace}
 
 pub receipted_more : (rs : List Receipt) (r : Receipt) → receipted (rs ++ r ∷ []) ≡ receipted rs ++ (r.event, r.reply) ∷ []

@@ -1,7 +1,7 @@
 -- The receipts of one seat.
 use Rattle.std.specs.Prelude.{◌≡◌, ℕ, List, Some, None}
 use Rattle.std.specs.List.{last_or}
-use Rattle.radio_desk.specs.declared.seat.Receipt.{Receipt}
+use Rattle.radio_desk.specs.Receipts.{Receipt}
 
 -- there is a receipt, and the last one is of this place
 abbrev pub IsLastPlace : List Receipt → ℕ → Type 0

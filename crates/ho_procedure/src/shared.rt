@@ -41,8 +41,7 @@ impl<R: Drop, A: Allocator> Drop for Shared<R, A> {
 
 impl<R: Drop, A: Allocator> Model for Shared<R, A> {
     ghost use Rattle.std.specs.Prelude.{List};
-    ghost use Rattle.radio_desk.specs.declared.seat.Receipt.{Receipt};
-    ghost use Rattle.radio_desk.specs.Receipts.{IsSeated};
+    ghost use Rattle.radio_desk.specs.Receipts.{Receipt, IsSeated};
 
     ghost Value = { List Receipt };
 

@@ -2,7 +2,7 @@
 ghost use Rattle.std.specs.Prelude.{◌≡◌, ◌∷◌, ◌++◌, [], ℕ, List, IfOk, IfErr, OnErr, IfSome, MatchOption};
 ghost use Rattle.channel_fsm.specs.declared.ChanId.{ChanId};
 ghost use Rattle.timeslots.specs.Parts.{rate_of};
-ghost use Rattle.radio_desk.specs.declared.seat.Receipt.{Receipt};
+ghost use Rattle.radio_desk.specs.Receipts.{Receipt};
 ghost use Rattle.ho_procedure.specs.Claims.{Entry, Claim, NoneFree, Chosen, UnknownReceipt, MayBeRefused, TakeMayBeRefused, IsForeign, IsNoMemory};
 
 use channel_fsm::Rate;

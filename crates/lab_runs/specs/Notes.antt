@@ -4,7 +4,7 @@ use Rattle.std.specs.Coded.{Coded, code_by, coded×, coded_list}
 use Rattle.timeslots.specs.declared.Rate.{Rate}
 use Rattle.radio_book.specs.State.{State}
 use Rattle.radio_desk.specs.Desk.{DeskState, desk_code}
-use Rattle.radio_desk.specs.declared.seat.Receipt.{Receipt}
+use Rattle.radio_desk.specs.Receipts.{Receipt}
 use Rattle.ho_procedure.specs.Claims.{Entry, IsTrueAfter}
 use Rattle.ho_procedure.specs.Claims as claim
 use Rattle.trace_text.specs.declared.trace.Step.{Step}

@@ -10,7 +10,7 @@ use Rattle.radio_book.specs.declared.event.Reply.{Reply}
 use Rattle.radio_book.specs.Table.{row, NeedsRoom, MayBeRefused}
 use Rattle.radio_book.proofs.RecordFacts.{begins_call}
 use Rattle.radio_book.specs.Choice.{IsFreeAt, TakesFree, OpensFree}
-use Rattle.radio_desk.specs.declared.seat.Receipt.{Receipt}
+use Rattle.radio_desk.specs.Receipts.{Receipt}
 use Rattle.radio_desk.specs.Desk.{DeskState, HoldsLast, IsForeign, LacksRoom}
 
 -- a seat whose last receipt is held isn't foreign

@@ -10,7 +10,7 @@ use Rattle.radio_book.specs.State.{State, state_code}
 use Rattle.radio_book.specs.Table.{step, reply_to}
 use Rattle.radio_book.specs.Run.{Leads}
 use Rattle.radio_book.specs.Owed.{owed, calls_and_channels}
-use Rattle.radio_desk.specs.declared.seat.Receipt.{Receipt}
+use Rattle.radio_desk.specs.Receipts.{Receipt}
 
 pub record DeskState : Type 0 where
   -- the book before the first entry, and after the last

@@ -3,7 +3,11 @@ use Rattle.std.specs.Prelude.{◌≡◌, ◌<◌, ℕ, List, [], ◌∷◌, ◌+
 use Rattle.std.specs.List.{last_or}
 use Rattle.radio_book.specs.declared.event.Event.{Event}
 use Rattle.radio_book.specs.declared.event.Reply.{Reply}
-use Rattle.radio_desk.specs.declared.seat.Receipt.{Receipt}
+use Rattle.radio_book.specs.declared.undone.StepAt.{StepAt}
+
+-- an entry of the history as a step at its place
+abbrev pub Receipt : Type 0
+Receipt = StepAt
 
 -- the entries that the receipts are of
 abbrev pub receipted : List Receipt → List (Event × Reply)

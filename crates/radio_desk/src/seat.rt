@@ -1,19 +1,11 @@
 //! Callers at a desk, and what they get there.
 ghost use Rattle.std.specs.Prelude.{◌≡◌, None, Some};
 
-use radio_book::event::{Event, Reply};
+use radio_book::undone::StepAt;
 use std::marker::Model;
 
-/// What an answered caller keeps: an entry of the history, and where it stands there.
-#[derive(Clone, Copy, Debug, PartialEq, Eq)]
-pub struct Receipt {
-    /// How many entries stand before it.
-    pub place: usize,
-    /// What was asked.
-    pub event: Event,
-    /// What the book answered.
-    pub reply: Reply,
-}
+/// What an answered caller keeps: an entry of the history as a step, whose place is how many entries stand before it.
+pub type Receipt = StepAt;
 
 /// One caller's place at a desk. Contracts see it as its last receipt.
 #[derive(Drop)]
@@ -23,7 +15,7 @@ pub struct Seat {
 
 impl Model for Seat {
     ghost use Rattle.std.specs.Prelude.{Option};
-    ghost use Rattle.radio_desk.specs.declared.seat.Receipt.{Receipt};
+    ghost use Rattle.radio_desk.specs.Receipts.{Receipt};
 
     ghost Value = { Option Receipt };
 

@@ -9,7 +9,7 @@ use Rattle.std.proofs.lemmas.Option.{slice_get_within}
 use Rattle.radio_book.specs.declared.event.Event.{Event}
 use Rattle.radio_book.specs.declared.event.Reply.{Reply}
 use Rattle.std.proofs.lemmas.Bool.Decides.{nat_tests}
-use Rattle.radio_desk.specs.declared.seat.Receipt.{Receipt}
+use Rattle.radio_desk.specs.Receipts.{Receipt}
 use Rattle.receipt_check.specs.Gathering.{AreFresh, FirstWrong, StandsAt, has_place}
 
 pub fresh_more : (all : List Receipt) (i : ℕ) (e : Receipt) → i < length all → AreFresh all i → has_place (get_or all i e).place (take i all) ≡ false → AreFresh all (i + 1)

@@ -9,8 +9,7 @@ use Rattle.radio_book.specs.declared.event.Event.{Event}
 use Rattle.radio_book.specs.declared.event.Event.TheVariants.{Open}
 use Rattle.radio_book.specs.declared.event.Reply.{Reply}
 use Rattle.radio_book.specs.State.{State}
-use Rattle.radio_desk.specs.declared.seat.Receipt.{Receipt}
-use Rattle.radio_desk.specs.Receipts.{receipted}
+use Rattle.radio_desk.specs.Receipts.{Receipt, receipted}
 use Rattle.receipt_check.specs.Gathering.{StandsAt}
 use Rattle.ho_procedure.specs.declared.exchange.Inbound.{Inbound}
 use Rattle.ho_procedure.specs.declared.exchange.Inbound.TheVariants.{Operator}

@@ -2,7 +2,7 @@ use Rattle.std.proofs.Common.{◌≡◌, ◌++◌, ℕ, List, IfOk, OnOk, Result
 use Rattle.std.specs.List.{flat_map}
 use Rattle.radio_book.specs.Run.{Leads}
 use Rattle.radio_desk.specs.Desk.{DeskState}
-use Rattle.radio_desk.specs.declared.seat.Receipt.{Receipt}
+use Rattle.radio_desk.specs.Receipts.{Receipt}
 use Rattle.receipt_check.specs.Gathering.{StandsAt}
 use Rattle.ho_procedure.specs.Sent.{Sent}
 use Rattle.call_worker.specs.declared.posted.WorkerEnd.{WorkerEnd}
