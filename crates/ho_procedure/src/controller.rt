@@ -1,5 +1,6 @@
 //! The controller: what it does for each input.
-ghost use Rattle.std.specs.Prelude.{◌≡◌, ℕ, List, [], IfOk, IfErr, Err};
+ghost use Rattle.std.specs.Prelude.{◌≡◌, ℕ, List, [], IfOk, IfErr, OnOk, OnErr, Err};
+ghost use Rattle.radio_desk.specs.Desk.{IsAnew};
 ghost use Rattle.ho_procedure.specs.Claims.{Entry, Claim, UnknownReceipt};
 ghost use Rattle.ho_procedure.specs.Sent.{all_sent};
 ghost use Rattle.ho_procedure.specs.Handling.{StopsBy, IsRow, IsUndecoded, AnswersFault, Handles, IsDeskFault};
@@ -9,11 +10,11 @@ ghost use Rattle.ho_procedure.specs.Going.{last_reports};
 use crate::exchange::{Bad, Fault, Inbound, Link, Outbound};
 use crate::following::{Stop, follow};
 use crate::outbox::Outbox;
-use crate::view::DeskView;
+use crate::view::{DeskView, OwnDesk};
 use crate::windows::Windows;
 use crate::work::Work;
 use cell_table::Site;
-use std::alloc::{Allocator, Global};
+use std::alloc::{AllocError, Allocator, Global};
 use std::marker::Model;
 use std::sync::Arc;
 
@@ -130,5 +131,19 @@ impl<D: DeskView + Drop, A: Allocator + Copy> Controller<D, A> {
             Err(Stop::NoMemory) => Err(Fault::NoMemory(owed)),
             Err(Stop::Foreign(place)) => Err(Fault::Desk(place, owed)),
         }
+    }
+}
+
+impl<D: OwnDesk + Drop, A: Allocator + Copy> Controller<D, A> {
+    /// Its desk begins anew with today's book ([`OwnDesk::begin_anew`]). The last reports of each call stay. Where memory is
+    /// refused, nothing changes.
+    pub fn begin_anew(&mut self) -> Result<(), AllocError>
+        ensures anew { OnOk result (IsAnew (D.desk self.old.0) (D.desk self.new.0)) }
+        ensures log { OnOk result (D.log self.new.0 ≡ []) }
+        ensures unchanged { OnErr result (self.new.0 ≡ self.old.0) }
+        ensures reports { self.new.1 ≡ self.old.1 }
+        ensures site { self.new.2 ≡ self.old.2 }
+    {
+        self.work.view.begin_anew()
     }
 }

@@ -9,12 +9,12 @@ ghost use Rattle.radio_book.specs.Table.{row, NeedsRoom};
 ghost use Rattle.radio_desk.specs.Desk.{IsJudged, LacksRoom};
 ghost use Rattle.ho_procedure.specs.Claims.{Entry, Claim, NoneFree, Chosen, UnknownReceipt, MayBeRefused, TakeMayBeRefused, IsForeign, IsNoMemory, IsTrueAfter};
 
-use crate::view::DeskView;
+use crate::view::{DeskView, OwnDesk};
 use channel_fsm::Rate;
 use radio_book::event::{Event, Kind};
 use radio_desk::desk::{Desk, DeskFault};
 use radio_desk::seat::{Receipt, Seat};
-use std::alloc::{Allocator, Global};
+use std::alloc::{AllocError, Allocator, Global};
 use std::marker::Model;
 
 /// A desk with its only caller. Contracts see it as the desk.
@@ -162,5 +162,13 @@ impl<A: Allocator + Copy> DeskView for Solo<A> {
     {
         let _entries = self.desk.len();
         self.desk.judge_reserve(&mut Seat::new(), call)
+    }
+}
+
+impl<A: Allocator + Copy> OwnDesk for Solo<A> {
+    ghost desk = { λ solo. solo };
+
+    fn begin_anew(&mut self) -> Result<(), AllocError> {
+        self.desk.begin_anew()
     }
 }

@@ -1,14 +1,16 @@
 //! How a controller asks the book.
-ghost use Rattle.std.specs.Prelude.{◌≡◌, ◌∷◌, ◌++◌, [], ℕ, List, IfOk, IfErr, OnErr, IfSome, MatchOption};
+ghost use Rattle.std.specs.Prelude.{◌≡◌, ◌∷◌, ◌++◌, [], ℕ, List, IfOk, IfErr, OnOk, OnErr, IfSome, MatchOption};
 ghost use Rattle.channel_fsm.specs.declared.ChanId.{ChanId};
 ghost use Rattle.timeslots.specs.Parts.{rate_of};
 ghost use Rattle.radio_desk.specs.Receipts.{Receipt};
+ghost use Rattle.radio_desk.specs.Desk.{DeskState, IsAnew};
 ghost use Rattle.ho_procedure.specs.Claims.{Entry, Claim, NoneFree, Chosen, UnknownReceipt, MayBeRefused, TakeMayBeRefused, IsForeign, IsNoMemory};
 
 use channel_fsm::Rate;
 use radio_book::event::{Event, Kind};
 use radio_desk::desk::DeskFault;
 use radio_desk::seat::Receipt;
+use std::alloc::AllocError;
 
 /// A way to ask the book: at a desk of one's own, or at one that threads share. Contracts see what it was asked, each
 /// event with its reply, as its log.
@@ -100,4 +102,17 @@ pub trait DeskView {
             (n : ℕ) → says self.old (log self.old) (MayBeRefused (Event.Reserve call n))) }
         ensures said { (es : List Entry) → (claim : Claim) →
             says self.new es claim → says self.old es claim };
+}
+
+/// A view of a desk that nobody else asks. So the desk may begin anew, without a caller whose receipts it would forget.
+pub trait OwnDesk: DeskView {
+    // the desk that it asks
+    ghost desk: { Self → DeskState };
+
+    /// Its desk begins anew with today's book (`Desk::begin_anew`), and nothing was asked of it since. Memory is asked for, for a
+    /// copy of the book; where it is refused, nothing changes.
+    fn begin_anew(&mut self) -> Result<(), AllocError>
+        ensures anew { OnOk result (IsAnew (desk self.old) (desk self.new)) }
+        ensures log { OnOk result (Self.log self.new ≡ []) }
+        ensures unchanged { OnErr result (self.new ≡ self.old) };
 }

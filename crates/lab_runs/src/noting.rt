@@ -1,19 +1,19 @@
 //! A view of a desk that notes where it found no free channel, for a trace.
-ghost use Rattle.std.specs.Prelude.{◌≡◌, ◌∷◌, ◌++◌, [], ℕ, List, All, drop, length, IfOk, IfErr, OnErr, IfSome, MatchOption};
+ghost use Rattle.std.specs.Prelude.{◌≡◌, ◌∷◌, ◌++◌, [], ℕ, List, All, drop, length, IfOk, IfErr, OnOk, OnErr, IfSome, MatchOption};
 ghost use Rattle.channel_fsm.specs.declared.ChanId.{ChanId};
 ghost use Rattle.timeslots.specs.Parts.{rate_of};
-ghost use Rattle.radio_desk.specs.Desk.{IsJudged};
+ghost use Rattle.radio_desk.specs.Desk.{IsJudged, IsAnew};
 ghost use Rattle.ho_procedure.specs.Claims.{Entry, Claim, IsForeign, IsNoMemory, NoneFree, Chosen, UnknownReceipt, TakeMayBeRefused};
 ghost use Rattle.lab_runs.specs.Notes.{IsTrueNote, notes_after};
 ghost use Rattle.lab_runs.specs.Turns.{history_of, says};
 
 use channel_fsm::Rate;
 use ho_procedure::solo::Solo;
-use ho_procedure::view::DeskView;
+use ho_procedure::view::{DeskView, OwnDesk};
 use radio_book::event::{Event, Kind};
 use radio_desk::desk::{Desk, DeskFault};
 use radio_desk::seat::Receipt;
-use std::alloc::{Allocator, Global};
+use std::alloc::{AllocError, Allocator, Global};
 use std::marker::Model;
 
 /// A channel of a cell was asked for, and none was free at this rate.
@@ -162,5 +162,21 @@ impl<A: Allocator + Copy> DeskView for Noting<A> {
 
     fn judge_reserve(&mut self, call: u16) -> Result<Receipt, DeskFault> {
         self.solo.judge_reserve(call)
+    }
+}
+
+impl<A: Allocator + Copy> OwnDesk for Noting<A> {
+    ghost desk = { λ noting. noting.desk };
+
+    // The trait's clauses once more, and that nothing is noted any more.
+    fn begin_anew(&mut self) -> Result<(), AllocError>
+        ensures anew { OnOk result (IsAnew self.old.desk self.new.desk) }
+        ensures log { OnOk result (history_of self.new ≡ []) }
+        ensures notes { OnOk result (self.new.notes ≡ []) }
+        ensures unchanged { OnErr result (self.new ≡ self.old) }
+    {
+        self.solo.begin_anew()?;
+        self.notes.clear();
+        Ok(())
     }
 }

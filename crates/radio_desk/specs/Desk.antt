@@ -74,3 +74,11 @@ pub record IsSameDesk (d d' : DeskState) : Type 0 where
   pub history : d'.history ≡ d.history
   pub book : d'.book ≡ d.book
   pub room : d.room ≤ d'.room
+
+-- The desk began anew: the book that it had is the opening one, and nothing was asked since. Of its history all memory is left
+-- as room.
+pub record IsAnew (d d' : DeskState) : Type 0 where
+  pub opening : d'.opening ≡ d.book
+  pub book : d'.book ≡ d.book
+  pub history : d'.history ≡ []
+  pub room : d'.room ≡ d.room + length d.history

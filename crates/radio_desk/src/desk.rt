@@ -7,7 +7,8 @@ ghost use Rattle.radio_book.specs.Table.{row, reply_to, NeedsRoom, MayBeRefused}
 ghost use Rattle.radio_book.specs.Choice.{NoneFreeAt, TakesFree, OpensFree, ReservesFree};
 ghost use Rattle.radio_book.specs.Kinds.{is_accepted};
 ghost use Rattle.radio_book.specs.Owed.{owed, is_owed};
-ghost use Rattle.radio_desk.specs.Desk.{IsEntryOf, HoldsLast, IsForeign, IsJudged, IsSameDesk, LacksRoom};
+ghost use Rattle.radio_desk.specs.Desk.{IsEntryOf, HoldsLast, IsForeign, IsJudged, IsSameDesk, IsAnew, LacksRoom};
+ghost use Rattle.radio_desk.specs.Receipts.{Receipt};
 ghost use Rattle.radio_desk.specs.Tally.{count_of};
 ghost use Rattle.radio_desk.specs.Audit.{IsAuditOf};
 
@@ -312,6 +313,21 @@ impl<A: Allocator + Copy> Desk<A> {
         }
         let (event, reply) = answer_reserve(&mut self.history, &mut self.book, call)?;
         Ok(enter(&mut self.history, seat, event, reply))
+    }
+
+    /// Begins anew with today's book: it is the opening one from now on, and the history is empty. The history keeps its
+    /// memory, so that there is room for what is owed.
+    ///
+    /// A seat with a receipt of before is foreign from now on, as [`Desk::judge`] says, until the history has an entry like
+    /// the receipt's at its place. Memory is asked for, for a copy of the book; where it is refused, nothing changes.
+    pub fn begin_anew(&mut self) -> Result<(), AllocError>
+        ensures anew { OnOk result (IsAnew self.old self.new) }
+        ensures foreign { OnOk result ((r : Receipt) → IsForeign self.new.history (Some r) r.place) }
+        ensures unchanged { OnErr result (self.new ≡ self.old) }
+    {
+        self.opening = self.book.copy()?;
+        self.history.clear();
+        Ok(())
     }
 }
 
