@@ -1,10 +1,12 @@
 -- Facts of the words of a text, and of the fields among them.
-use Rattle.std.proofs.Common.{◌≡◌, ℕ, ◌+◌, ◌<◌, ◌∷◌, List, [], Bool, true, false, not, Option, Some, None, refl, ap, sym, inl, inr, if◌then◌else◌, ◌∙◌, arith, length, length-drop, nat_lt, option_map, ◌==◌, Bor, MatchOption, IfSome}
-use Rattle.std.specs.List.{find, slice_split, onto_first, position_or_len, before_first, after_first}
+use Rattle.std.proofs.Common.{◌≡◌, ℕ, ◌+◌, ◌<◌, ◌∷◌, List, [], Bool, true, false, Option, Some, None, refl, ap, ◌∙◌, arith, length, length-drop, nat_lt, option_map, ◌==◌, Bor, MatchOption, IfSome}
+use Rattle.std.specs.Prelude.{bytes_eq}
+use Rattle.std.specs.List.{list_any, slice_split, onto_first, position_or_len, before_first, after_first}
 use Rattle.std.proofs.lemmas.List.Splits.{slice_split-cons_no, slice_split_first}
-use Rattle.std.proofs.lemmas.Bool.{cases_Bool}
 use Rattle.std.proofs.lemmas.Bool.Decides.{Decides-ltb}
-use Rattle.encoded_messages.specs.Words.{cut_at}
+use Rattle.encoded_messages.specs.Words.{cut_at, is_same}
+use Rattle.encoded_messages.specs.Forms.{keys_of}
+use Rattle.encoded_messages.specs.declared.form.FieldForm.{FieldForm}
 
 -- how a text is cut at the first of its bytes that is such
 abbrev pub Cut : (ℕ → Bool) → List ℕ → Option (Bor (List ℕ) × Bor (List ℕ)) → Type 0
@@ -44,3 +46,8 @@ cut_first mark text None h =
 cut_first mark text (Some x) h =
     let within : nat_lt (position_or_len (λ b. b == mark) text) (length text) ≡ true = (Decides-ltb (position_or_len (λ b. b == mark) text) (length text)).1 h.0 in
     rw (within, h.1, h.2) refl
+
+-- a field has a key, and the key is one of those of the fields
+pub keys_any : (key : List ℕ) (forms : List FieldForm) → list_any (is_same key) (keys_of forms) ≡ list_any (λ form. bytes_eq form.0.now key) forms
+keys_any key [] = refl
+keys_any key (form ∷ forms) = rw (keys_any key forms) refl

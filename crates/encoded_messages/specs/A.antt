@@ -46,9 +46,13 @@ request_cells fields = do
   target ← cell_at (codes "target") fields
   Ok (serving, target)
 
+-- the keys of the fields of HANDOVER REQUEST
+unfoldable pub request_keys : List (List ℕ)
+request_keys = codes "channel" ∷ codes "encryption" ∷ codes "classmark" ∷ codes "serving" ∷ codes "target" ∷ []
+
 unfoldable pub handover_request : {A : Type 0} → List ℕ → FieldRead (Bssmap A)
 handover_request fields = do
-  only_keys (codes "channel encryption classmark serving target") fields
+  only_keys request_keys fields
   channel ← octets_at 2 (codes "channel") fields
   encryption ← octets_at 1 (codes "encryption") fields
   classmark ← classmark_at fields
@@ -57,7 +61,7 @@ handover_request fields = do
 
 unfoldable pub handover_required : {A : Type 0} → List ℕ → FieldRead (Bssmap A)
 handover_required fields = do
-  only_keys (codes "cause response cells") fields
+  only_keys (codes "cause" ∷ codes "response" ∷ codes "cells" ∷ []) fields
   cause ← number_at 255 (codes "cause") fields
   response ← flag_at (codes "response") fields
   cells ← cells_at fields
@@ -65,32 +69,32 @@ handover_required fields = do
 
 unfoldable pub layer3_alone : List ℕ → FieldRead (List ℕ)
 layer3_alone fields = do
-  only_keys (codes "layer3") fields
+  only_keys (codes "layer3" ∷ []) fields
   octets_at 1 (codes "layer3") fields
 
 unfoldable pub handover_complete : {A : Type 0} → List ℕ → FieldRead (Bssmap A)
 handover_complete fields = do
-  only_keys (codes "rr") fields
+  only_keys (codes "rr" ∷ []) fields
   rr ← optional_octet_at (codes "rr") fields
   Ok (HandoverComplete rr)
 
 unfoldable pub handover_failure : {A : Type 0} → List ℕ → FieldRead (Bssmap A)
 handover_failure fields = do
-  only_keys (codes "cause rr") fields
+  only_keys (codes "cause" ∷ codes "rr" ∷ []) fields
   cause ← number_at 255 (codes "cause") fields
   rr ← optional_octet_at (codes "rr") fields
   Ok (HandoverFailure cause rr)
 
 unfoldable pub handover_performed : {A : Type 0} → List ℕ → FieldRead (Bssmap A)
 handover_performed fields = do
-  only_keys (codes "cause cell") fields
+  only_keys (codes "cause" ∷ codes "cell" ∷ []) fields
   cause ← number_at 255 (codes "cause") fields
   cell ← cell_at (codes "cell") fields
   Ok (HandoverPerformed cause cell)
 
 unfoldable pub cause_alone : List ℕ → FieldRead ℕ
 cause_alone fields = do
-  only_keys (codes "cause") fields
+  only_keys (codes "cause" ∷ []) fields
   number_at 255 (codes "cause") fields
 
 -- this message, of fields that are none

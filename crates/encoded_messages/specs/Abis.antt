@@ -1,7 +1,7 @@
 -- The message on Abis that a text says (TS 48.058 clause 8), or the first thing that is wrong with the text: its name; a word
 -- that is no field of the message; then each field, in the order in which it stands here. A text is the list of its bytes;
 -- the words are ours, of no standard.
-use Rattle.std.specs.Prelude.{◌≡◌, ◌⊎◌, ℕ, if◌then◌else◌, List, codes, Ok, Err, IsOkAnd, bytes_eq}
+use Rattle.std.specs.Prelude.{◌≡◌, ◌⊎◌, ℕ, if◌then◌else◌, List, [], ◌∷◌, codes, Ok, Err, IsOkAnd, bytes_eq}
 use Rattle.encoded_messages.specs.FieldFaults.{Read as FieldRead, ◌>>=◌, ◌>>◌, read_map}
 use Rattle.encoded_messages.specs.Fields.{name_of, fields_of, only_keys, number_at, traffic_channel_at, optional_octet_at, octets_at, optional_octets_at}
 use Rattle.rsl_messages.specs.declared.message.ChanBits.{ChanBits}
@@ -16,7 +16,7 @@ channel fields = read_map (λ c. record { tn = c.0; sub = c.1 }) (traffic_channe
 
 unfoldable pub data_request : {A : Type 0} → List ℕ → FieldRead (Rsl A)
 data_request fields = do
-  only_keys (codes "tn link layer3") fields
+  only_keys (codes "tn" ∷ codes "link" ∷ codes "layer3" ∷ []) fields
   channel ← channel fields
   link ← number_at 255 (codes "link") fields
   layer3 ← octets_at 1 (codes "layer3") fields
@@ -24,15 +24,19 @@ data_request fields = do
 
 unfoldable pub data_indication : {A : Type 0} → List ℕ → FieldRead (Rsl A)
 data_indication fields = do
-  only_keys (codes "tn link layer3") fields
+  only_keys (codes "tn" ∷ codes "link" ∷ codes "layer3" ∷ []) fields
   channel ← channel fields
   link ← number_at 255 (codes "link") fields
   layer3 ← octets_at 1 (codes "layer3") fields
   Ok (DataIndication channel link layer3)
 
+-- the keys of the fields of CHANNEL ACTIVATION
+unfoldable pub activation_keys : List (List ℕ)
+activation_keys = codes "tn" ∷ codes "activation" ∷ codes "mode" ∷ codes "reference" ∷ []
+
 unfoldable pub activation : {A : Type 0} → List ℕ → FieldRead (Rsl A)
 activation fields = do
-  only_keys (codes "tn activation mode reference") fields
+  only_keys activation_keys fields
   channel ← channel fields
   activation ← number_at 255 (codes "activation") fields
   mode ← octets_at 1 (codes "mode") fields
@@ -41,28 +45,32 @@ activation fields = do
 
 unfoldable pub activation_ack : {A : Type 0} → List ℕ → FieldRead (Rsl A)
 activation_ack fields = do
-  only_keys (codes "tn frame") fields
+  only_keys (codes "tn" ∷ codes "frame" ∷ []) fields
   channel ← channel fields
   frame ← number_at 65535 (codes "frame") fields
   Ok (ChannelActivationAck channel frame)
 
 unfoldable pub cause : List ℕ → FieldRead (ChanBits × ℕ)
 cause fields = do
-  only_keys (codes "tn cause") fields
+  only_keys (codes "tn" ∷ codes "cause" ∷ []) fields
   channel ← channel fields
   cause ← number_at 255 (codes "cause") fields
   Ok (channel, cause)
 
 unfoldable pub detection : {A : Type 0} → List ℕ → FieldRead (Rsl A)
 detection fields = do
-  only_keys (codes "tn delay") fields
+  only_keys (codes "tn" ∷ codes "delay" ∷ []) fields
   channel ← channel fields
   delay ← optional_octet_at (codes "delay") fields
   Ok (HandoverDetection channel delay)
 
+-- the keys of the fields of MEASUREMENT RESULT
+unfoldable pub measurement_keys : List (List ℕ)
+measurement_keys = codes "tn" ∷ codes "number" ∷ codes "uplink" ∷ codes "power" ∷ codes "layer3" ∷ []
+
 unfoldable pub measurement : {A : Type 0} → List ℕ → FieldRead (Rsl A)
 measurement fields = do
-  only_keys (codes "tn number uplink power layer3") fields
+  only_keys measurement_keys fields
   channel ← channel fields
   number ← number_at 255 (codes "number") fields
   uplink ← octets_at 0 (codes "uplink") fields
@@ -72,7 +80,7 @@ measurement fields = do
 
 unfoldable pub channel_alone : List ℕ → FieldRead ChanBits
 channel_alone fields = do
-  only_keys (codes "tn") fields
+  only_keys (codes "tn" ∷ []) fields
   channel fields
 
 -- the message of this name with these fields, without those that have octets

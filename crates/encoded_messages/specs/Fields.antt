@@ -27,7 +27,7 @@ none_unknown None = Ok tt
 none_unknown (Some word) = Err (Unknown word)
 
 -- each word is a field with one of these keys, or else the first that is none is wrong; no fields at all have no word
-unfoldable pub only_keys : List ℕ → List ℕ → Read (Unit {0})
+unfoldable pub only_keys : List (List ℕ) → List ℕ → Read (Unit {0})
 only_keys keys fields = if length fields == 0 then Ok tt else none_unknown (first_unknown keys (words_of fields))
 
 -- the only one of the values of a key

@@ -4,6 +4,7 @@ pub mod Chains
 pub mod Faults
 pub mod FieldFaults
 pub mod Fields
+pub mod Forms
 pub mod Rr
 pub mod Values
 pub mod Words

@@ -39,9 +39,13 @@ power fields = do
   level ← number_at 31 (codes "power") fields
   Ok (record { atc = atc; level = level })
 
+-- the keys of the fields of HANDOVER COMMAND
+unfoldable pub command_keys : List (List ℕ)
+command_keys = codes "arfcn" ∷ codes "ncc" ∷ codes "bcc" ∷ codes "tn" ∷ codes "tsc" ∷ codes "carrier" ∷ codes "reference" ∷ codes "atc" ∷ codes "power" ∷ []
+
 unfoldable pub handover_command : List ℕ → FieldRead Rr
 handover_command fields = do
-  only_keys (codes "arfcn ncc bcc tn tsc carrier reference atc power") fields
+  only_keys command_keys fields
   cell ← cell fields
   channel ← channel fields
   reference ← number_at 255 (codes "reference") fields
@@ -50,13 +54,13 @@ handover_command fields = do
 
 unfoldable pub cause_alone : List ℕ → FieldRead RrCause
 cause_alone fields = do
-  only_keys (codes "cause") fields
+  only_keys (codes "cause" ∷ []) fields
   cause ← number_at 255 (codes "cause") fields
   Ok (record { 0 = cause })
 
 unfoldable pub physical_information : List ℕ → FieldRead Rr
 physical_information fields = do
-  only_keys (codes "ta") fields
+  only_keys (codes "ta" ∷ []) fields
   advance ← number_at 255 (codes "ta") fields
   Ok (PhysicalInformation advance)
 
@@ -86,10 +90,14 @@ neighbours_of (value ∷ values) = ok_or (neighbour_of value) (Value (codes "n")
 abbrev pub neighbours_in : List ℕ → FieldRead (List Ncell)
 neighbours_in fields = neighbours_of (values_of (codes "n") (words_of fields))
 
+-- the keys of the fields of MEASUREMENT REPORT
+unfoldable pub report_keys : List (List ℕ)
+report_keys = codes "ba" ∷ codes "dtx" ∷ codes "full" ∷ codes "ba3g" ∷ codes "valid" ∷ codes "sub" ∷ codes "si23" ∷ codes "qfull" ∷ codes "qsub" ∷ codes "count" ∷ codes "n" ∷ []
+
 -- what is measured: a head and neighbours
 unfoldable pub measured : List ℕ → FieldRead (MeasHead × List Ncell)
 measured fields = do
-  only_keys (codes "ba dtx full ba3g valid sub si23 qfull qsub count n") fields
+  only_keys report_keys fields
   head ← head fields
   neighbours ← neighbours_in fields
   Ok (head, neighbours)

@@ -1,5 +1,5 @@
 -- The words of a text, and the fields among them. A text is the list of its bytes. Ours, of no standard.
-use Rattle.std.specs.Prelude.{◌≡◌, ℕ, ◌==◌, ◌&&◌, Bool, not, false, nat_lt, if◌then◌else◌, List, length, Option, Some, None, bytes_eq}
+use Rattle.std.specs.Prelude.{◌≡◌, ℕ, ◌==◌, Bool, not, false, nat_lt, if◌then◌else◌, List, length, Option, Some, None, bytes_eq}
 use Rattle.std.specs.List.{slice_split, list_any, find, filter_map, before_first, after_first, position_or_len}
 
 -- the words of a text: one blank stands between any two
@@ -38,14 +38,14 @@ abbrev pub values_of : List ℕ → List (List ℕ) → List (List ℕ)
 values_of key words = filter_map (value_in key) words
 
 -- the key of a field is one of these
-abbrev pub is_key : List ℕ → Option (List ℕ × List ℕ) → Bool
+abbrev pub is_key : List (List ℕ) → Option (List ℕ × List ℕ) → Bool
 is_key keys None = false
-is_key keys (Some (key, value)) = not (length key == 0) && list_any (is_same key) (words_of keys)
+is_key keys (Some (key, value)) = list_any (is_same key) keys
 
 -- a word is a field with one of these keys
-abbrev pub is_known : List ℕ → List ℕ → Bool
+abbrev pub is_known : List (List ℕ) → List ℕ → Bool
 is_known keys word = is_key keys (field_of word)
 
 -- the first word that is no field with one of these keys
-abbrev pub first_unknown : List ℕ → List (List ℕ) → Option (List ℕ)
+abbrev pub first_unknown : List (List ℕ) → List (List ℕ) → Option (List ℕ)
 first_unknown keys words = find (λ word. not (is_known keys word)) words

@@ -1,20 +1,213 @@
 //! Messages on A from words (TS 48.008 clause 3.2.1).
 ghost use Rattle.std.specs.Prelude.{◌≡◌, ◌≢◌, ◌++◌, ◌∷◌, [], Some, None, OnOk, IfOk, IfErr, codes, option_map};
 ghost use Rattle.encoded_messages.specs.FieldFaults.{Value, read_of, fault_of, Answers};
+ghost use Rattle.encoded_messages.specs.Fields.{only_keys};
+ghost use Rattle.encoded_messages.specs.Forms.{keys_of};
 ghost use Rattle.encoded_messages.specs.Words.{parts_of};
-ghost use Rattle.encoded_messages.specs.declared.field_fault.Allowed.TheVariants.{Cells};
+ghost use Rattle.encoded_messages.specs.declared.field_fault.Allowed.TheVariants.{Cell, Cells};
 ghost use Rattle.encoded_messages.specs.declared.field_fault.FieldFault.TheVariants.{NoMemory};
 ghost use Rattle.encoded_messages.specs.Faults as faults;
 ghost use Rattle.encoded_messages.specs.A as said;
 
 use crate::fault::MessageFault;
 use crate::field_fault::{Allowed, FieldFault};
-use crate::fields::{flag, octet, octets, only_keys, optional_octet, value};
+use crate::fields::{only_fields, value};
+use crate::form::{FieldForm, MessageForm};
 use crate::name::name_and_fields;
 use crate::values::cell_in;
+use crate::visit::{FieldValue, Fields, hand_on};
 use crate::words::first_part;
 use bssmap_messages::{Bssmap, CellId, CellList, Classmark, Octets, encode, fits};
 use std::alloc::Allocator;
+
+/// The fields of messages on A.
+const CHANNEL: FieldForm<'static> = FieldForm("channel", Allowed::Octets(2));
+
+const ENCRYPTION: FieldForm<'static> = FieldForm("encryption", Allowed::Octets(1));
+
+const CLASSMARK: FieldForm<'static> = FieldForm("classmark", Allowed::Octets(0));
+
+const SERVING: FieldForm<'static> = FieldForm("serving", Allowed::Cell);
+
+const TARGET: FieldForm<'static> = FieldForm("target", Allowed::Cell);
+
+const CAUSE: FieldForm<'static> = FieldForm("cause", Allowed::Number(255));
+
+const RESPONSE: FieldForm<'static> = FieldForm("response", Allowed::Flag);
+
+const CELLS: FieldForm<'static> = FieldForm("cells", Allowed::Cells);
+
+const LAYER3: FieldForm<'static> = FieldForm("layer3", Allowed::Octets(1));
+
+const RR: FieldForm<'static> = FieldForm("rr", Allowed::OptionalOctet);
+
+const CELL: FieldForm<'static> = FieldForm("cell", Allowed::Cell);
+
+/// TS 48.008 clause 3.2.1.8.
+const HANDOVER_REQUEST: MessageForm<'static> = MessageForm {
+    name: "HANDOVER REQUEST",
+    fields: &[CHANNEL, ENCRYPTION, CLASSMARK, SERVING, TARGET],
+};
+/// TS 48.008 clause 3.2.1.9.
+const HANDOVER_REQUIRED: MessageForm<'static> = MessageForm {
+    name: "HANDOVER REQUIRED",
+    fields: &[CAUSE, RESPONSE, CELLS],
+};
+/// TS 48.008 clause 3.2.1.10.
+const HANDOVER_REQUEST_ACK: MessageForm<'static> = MessageForm {
+    name: "HANDOVER REQUEST ACKNOWLEDGE",
+    fields: &[LAYER3],
+};
+/// TS 48.008 clause 3.2.1.11.
+const HANDOVER_COMMAND: MessageForm<'static> = MessageForm {
+    name: "HANDOVER COMMAND",
+    fields: &[LAYER3],
+};
+/// TS 48.008 clause 3.2.1.12.
+const HANDOVER_COMPLETE: MessageForm<'static> = MessageForm {
+    name: "HANDOVER COMPLETE",
+    fields: &[RR],
+};
+/// TS 48.008 clause 3.2.1.16.
+const HANDOVER_FAILURE: MessageForm<'static> = MessageForm {
+    name: "HANDOVER FAILURE",
+    fields: &[CAUSE, RR],
+};
+/// TS 48.008 clause 3.2.1.20.
+const CLEAR_REQUEST: MessageForm<'static> = MessageForm {
+    name: "CLEAR REQUEST",
+    fields: &[CAUSE],
+};
+/// TS 48.008 clause 3.2.1.21.
+const CLEAR_COMMAND: MessageForm<'static> = MessageForm {
+    name: "CLEAR COMMAND",
+    fields: &[CAUSE],
+};
+/// TS 48.008 clause 3.2.1.22.
+const CLEAR_COMPLETE: MessageForm<'static> = MessageForm {
+    name: "CLEAR COMPLETE",
+    fields: &[],
+};
+/// TS 48.008 clause 3.2.1.25.
+const HANDOVER_PERFORMED: MessageForm<'static> = MessageForm {
+    name: "HANDOVER PERFORMED",
+    fields: &[CAUSE, CELL],
+};
+/// TS 48.008 clause 3.2.1.37.
+const HANDOVER_REQUIRED_REJECT: MessageForm<'static> = MessageForm {
+    name: "HANDOVER REQUIRED REJECT",
+    fields: &[CAUSE],
+};
+/// TS 48.008 clause 3.2.1.40.
+const HANDOVER_DETECT: MessageForm<'static> = MessageForm {
+    name: "HANDOVER DETECT",
+    fields: &[],
+};
+
+/// The messages on A, in the order in which they are listed.
+pub const A_FORMS: &[MessageForm<'static>] = &[
+    HANDOVER_REQUIRED,
+    HANDOVER_REQUIRED_REJECT,
+    HANDOVER_REQUEST,
+    HANDOVER_REQUEST_ACK,
+    HANDOVER_COMMAND,
+    HANDOVER_DETECT,
+    HANDOVER_COMPLETE,
+    HANDOVER_FAILURE,
+    HANDOVER_PERFORMED,
+    CLEAR_REQUEST,
+    CLEAR_COMMAND,
+    CLEAR_COMPLETE,
+];
+
+/// The form of a message on A.
+fn form_of<A: Allocator>(message: &Bssmap<A>) -> MessageForm<'static> {
+    match message {
+        Bssmap::HandoverRequest { .. } => HANDOVER_REQUEST,
+        Bssmap::HandoverRequired { .. } => HANDOVER_REQUIRED,
+        Bssmap::HandoverRequestAck { .. } => HANDOVER_REQUEST_ACK,
+        Bssmap::HandoverCommand { .. } => HANDOVER_COMMAND,
+        Bssmap::HandoverComplete { .. } => HANDOVER_COMPLETE,
+        Bssmap::HandoverFailure { .. } => HANDOVER_FAILURE,
+        Bssmap::HandoverPerformed { .. } => HANDOVER_PERFORMED,
+        Bssmap::HandoverRequiredReject { .. } => HANDOVER_REQUIRED_REJECT,
+        Bssmap::HandoverDetect => HANDOVER_DETECT,
+        Bssmap::ClearCommand { .. } => CLEAR_COMMAND,
+        Bssmap::ClearComplete => CLEAR_COMPLETE,
+        Bssmap::ClearRequest { .. } => CLEAR_REQUEST,
+    }
+}
+
+/// The name of a message on A.
+pub fn a_name<A: Allocator>(message: &Bssmap<A>) -> &'static str {
+    form_of(message).name
+}
+
+/// The value of a mobile's classmark: the octets of its element.
+fn classmark_value<A: Allocator>(classmark: &Classmark<A>) -> FieldValue<'_> {
+    match classmark {
+        Classmark::One(octet) => FieldValue::HexOctet(*octet),
+        Classmark::Two(octets) => FieldValue::Octets(octets.as_slice()),
+    }
+}
+
+/// Hands on the fields of a message on A.
+pub fn visit_a<'m, A: Allocator, V: Fields<'m>>(
+    message: &'m Bssmap<A>,
+    visitor: &mut V,
+) -> Result<(), V::Stop> {
+    let form = form_of(message);
+    match message {
+        Bssmap::HandoverRequest {
+            channel,
+            encryption,
+            classmark,
+            serving,
+            target,
+        } => {
+            let values = [
+                FieldValue::Octets(channel.as_slice()),
+                FieldValue::Octets(encryption.as_slice()),
+                classmark_value(classmark),
+                FieldValue::Cell(*serving),
+                FieldValue::Cell(*target),
+            ];
+            hand_on(form, &values, visitor)
+        }
+        Bssmap::HandoverRequired {
+            cause,
+            response,
+            cells,
+        } => {
+            let values = [
+                FieldValue::Cause(*cause),
+                FieldValue::Flag(*response),
+                FieldValue::Cells(cells.as_slice()),
+            ];
+            hand_on(form, &values, visitor)
+        }
+        Bssmap::HandoverRequestAck { layer3 } | Bssmap::HandoverCommand { layer3 } => hand_on(
+            form,
+            &[FieldValue::Layer3(Some(layer3.as_slice()))],
+            visitor,
+        ),
+        Bssmap::HandoverComplete { rr } => hand_on(form, &[FieldValue::RrCause(*rr)], visitor),
+        Bssmap::HandoverFailure { cause, rr } => hand_on(
+            form,
+            &[FieldValue::Cause(*cause), FieldValue::RrCause(*rr)],
+            visitor,
+        ),
+        Bssmap::HandoverPerformed { cause, cell } => hand_on(
+            form,
+            &[FieldValue::Cause(*cause), FieldValue::Cell(*cell)],
+            visitor,
+        ),
+        Bssmap::HandoverRequiredReject { cause }
+        | Bssmap::ClearCommand { cause }
+        | Bssmap::ClearRequest { cause } => hand_on(form, &[FieldValue::Cause(*cause)], visitor),
+        Bssmap::HandoverDetect | Bssmap::ClearComplete => Ok(()),
+    }
+}
 
 /// The cell that a text names.
 fn cell_of(text: &str) -> Option<CellId>
@@ -29,11 +222,12 @@ fn cell_of(text: &str) -> Option<CellId>
 
 /// The cell of a field.
 #[tactic(auto, unfolding(crate::specs::A::cell_at))]
-fn cell<'a>(fields: &'a str, key: &'static str) -> Result<CellId, FieldFault<'a>>
-    ensures { read_of result ≡ said.cell_at key.now fields.now }
+fn cell<'a>(fields: &'a str, form: FieldForm<'static>) -> Result<CellId, FieldFault<'a>>
+    requires { form.1 ≡ Cell }
+    ensures { read_of result ≡ said.cell_at form.entry.0.now fields.now }
 {
+    let FieldForm(key, allowed) = form;
     let value = value(fields, key)?;
-    let allowed = Allowed::Cell;
     cell_of(value).ok_or(FieldFault::Value {
         key,
         value,
@@ -54,9 +248,9 @@ fn add_cell<'a, A: Allocator>(
 {
     let Some(cell) = cell_of(part) else {
         return Err(FieldFault::Value {
-            key: "cells",
+            key: CELLS.0,
             value,
-            allowed: Allowed::Cells,
+            allowed: CELLS.1,
         });
     };
     cells.push(cell).map_err(|_| FieldFault::NoMemory)
@@ -87,7 +281,7 @@ fn add_cells<'a, A: Allocator>(
 fn cells<A: Allocator + Copy>(alloc: A, fields: &str) -> Result<CellList<A>, FieldFault<'_>>
     ensures { Answers result (said.cells_at fields.now) }
 {
-    let value = value(fields, "cells")?;
+    let value = value(fields, CELLS.0)?;
     let mut cells = Vec::new(alloc);
     add_cells(&mut cells, value)?;
     CellList::new(alloc, &cells).map_err(|_| FieldFault::NoMemory)
@@ -98,7 +292,7 @@ fn cells<A: Allocator + Copy>(alloc: A, fields: &str) -> Result<CellList<A>, Fie
 fn classmark<A: Allocator>(alloc: A, fields: &str) -> Result<Classmark<A>, FieldFault<'_>>
     ensures { Answers result (said.classmark_at fields.now) }
 {
-    let octets = octets(alloc, fields, "classmark", 0)?;
+    let octets = CLASSMARK.octets(alloc, fields)?;
     if let [octet] = octets.as_slice() {
         return Ok(Classmark::One(*octet));
     }
@@ -110,9 +304,17 @@ fn classmark<A: Allocator>(alloc: A, fields: &str) -> Result<Classmark<A>, Field
 fn request_cells(fields: &str) -> Result<(CellId, CellId), FieldFault<'_>>
     ensures { read_of result ≡ said.request_cells fields.now }
 {
-    let serving = cell(fields, "serving")?;
-    let target = cell(fields, "target")?;
+    let serving = cell(fields, SERVING)?;
+    let target = cell(fields, TARGET)?;
     Ok((serving, target))
+}
+
+/// Refuses a word that is no field of HANDOVER REQUEST.
+#[tactic(auto, unfolding(crate::specs::A::request_keys))]
+fn only_in_request(fields: &str) -> Result<(), FieldFault<'_>>
+    ensures { read_of result ≡ only_keys said.request_keys fields.now }
+{
+    only_fields(fields, HANDOVER_REQUEST)
 }
 
 /// HANDOVER REQUEST
@@ -123,9 +325,9 @@ fn handover_request<A: Allocator + Copy>(
 ) -> Result<Bssmap<A>, FieldFault<'_>>
     ensures { Answers result (said.handover_request fields.now) }
 {
-    only_keys(fields, "channel encryption classmark serving target")?;
-    let channel = Octets::from_vec(octets(alloc, fields, "channel", 2)?);
-    let encryption = Octets::from_vec(octets(alloc, fields, "encryption", 1)?);
+    only_in_request(fields)?;
+    let channel = Octets::from_vec(CHANNEL.octets(alloc, fields)?);
+    let encryption = Octets::from_vec(ENCRYPTION.octets(alloc, fields)?);
     let classmark = classmark(alloc, fields)?;
     let (serving, target) = request_cells(fields)?;
     Ok(Bssmap::HandoverRequest {
@@ -145,9 +347,9 @@ fn handover_required<A: Allocator + Copy>(
 ) -> Result<Bssmap<A>, FieldFault<'_>>
     ensures { Answers result (said.handover_required fields.now) }
 {
-    only_keys(fields, "cause response cells")?;
-    let cause = octet(fields, "cause")?;
-    let response = flag(fields, "response")?;
+    only_fields(fields, HANDOVER_REQUIRED)?;
+    let cause = CAUSE.octet(fields)?;
+    let response = RESPONSE.flag(fields)?;
     let cells = cells(alloc, fields)?;
     Ok(Bssmap::HandoverRequired {
         cause,
@@ -158,11 +360,16 @@ fn handover_required<A: Allocator + Copy>(
 
 /// The layer 3 message of a message that has nothing else.
 #[tactic(auto, unfolding(crate::specs::A::layer3_alone))]
-fn layer3_alone<A: Allocator>(alloc: A, fields: &str) -> Result<Octets<A>, FieldFault<'_>>
+fn layer3_alone<'a, A: Allocator>(
+    alloc: A,
+    fields: &'a str,
+    form: MessageForm<'static>,
+) -> Result<Octets<A>, FieldFault<'a>>
+    requires { keys_of form.fields.now ≡ codes "layer3" ∷ [] }
     ensures { Answers result (said.layer3_alone fields.now) }
 {
-    only_keys(fields, "layer3")?;
-    Ok(Octets::from_vec(octets(alloc, fields, "layer3", 1)?))
+    only_fields(fields, form)?;
+    Ok(Octets::from_vec(LAYER3.octets(alloc, fields)?))
 }
 
 /// HANDOVER COMPLETE
@@ -170,9 +377,9 @@ fn layer3_alone<A: Allocator>(alloc: A, fields: &str) -> Result<Octets<A>, Field
 fn handover_complete<A: Allocator>(fields: &str) -> Result<Bssmap<A>, FieldFault<'_>>
     ensures { read_of result ≡ said.handover_complete fields.now }
 {
-    only_keys(fields, "rr")?;
+    only_fields(fields, HANDOVER_COMPLETE)?;
     Ok(Bssmap::HandoverComplete {
-        rr: optional_octet(fields, "rr")?,
+        rr: RR.optional_octet(fields)?,
     })
 }
 
@@ -181,10 +388,10 @@ fn handover_complete<A: Allocator>(fields: &str) -> Result<Bssmap<A>, FieldFault
 fn handover_failure<A: Allocator>(fields: &str) -> Result<Bssmap<A>, FieldFault<'_>>
     ensures { read_of result ≡ said.handover_failure fields.now }
 {
-    only_keys(fields, "cause rr")?;
+    only_fields(fields, HANDOVER_FAILURE)?;
     Ok(Bssmap::HandoverFailure {
-        cause: octet(fields, "cause")?,
-        rr: optional_octet(fields, "rr")?,
+        cause: CAUSE.octet(fields)?,
+        rr: RR.optional_octet(fields)?,
     })
 }
 
@@ -193,28 +400,34 @@ fn handover_failure<A: Allocator>(fields: &str) -> Result<Bssmap<A>, FieldFault<
 fn handover_performed<A: Allocator>(fields: &str) -> Result<Bssmap<A>, FieldFault<'_>>
     ensures { read_of result ≡ said.handover_performed fields.now }
 {
-    only_keys(fields, "cause cell")?;
+    only_fields(fields, HANDOVER_PERFORMED)?;
     Ok(Bssmap::HandoverPerformed {
-        cause: octet(fields, "cause")?,
-        cell: cell(fields, "cell")?,
+        cause: CAUSE.octet(fields)?,
+        cell: cell(fields, CELL)?,
     })
 }
 
 /// The cause of a message that has nothing else.
 #[tactic(auto, unfolding(crate::specs::A::cause_alone))]
-fn cause_alone(fields: &str) -> Result<u8, FieldFault<'_>>
+fn cause_alone<'a>(fields: &'a str, form: MessageForm<'static>) -> Result<u8, FieldFault<'a>>
+    requires { keys_of form.fields.now ≡ codes "cause" ∷ [] }
     ensures { read_of result ≡ said.cause_alone fields.now }
 {
-    only_keys(fields, "cause")?;
-    octet(fields, "cause")
+    only_fields(fields, form)?;
+    CAUSE.octet(fields)
 }
 
 /// A message without fields.
 #[tactic(auto, unfolding(crate::specs::A::no_fields))]
-fn alone<A: Allocator>(fields: &str, message: Bssmap<A>) -> Result<Bssmap<A>, FieldFault<'_>>
+fn alone<'a, A: Allocator>(
+    fields: &'a str,
+    form: MessageForm<'static>,
+    message: Bssmap<A>,
+) -> Result<Bssmap<A>, FieldFault<'a>>
+    requires { keys_of form.fields.now ≡ [] }
     ensures { read_of result ≡ said.no_fields fields.now message }
 {
-    only_keys(fields, "")?;
+    only_fields(fields, form)?;
     Ok(message)
 }
 
@@ -226,22 +439,27 @@ fn short_message<'a, A: Allocator>(
 ) -> Result<Bssmap<A>, MessageFault<'a>>
     ensures { faults.read_of result ≡ said.short_message name.now fields.now }
 {
-    match name {
-        "HANDOVER COMPLETE" => Ok(handover_complete(fields)?),
-        "HANDOVER FAILURE" => Ok(handover_failure(fields)?),
-        "HANDOVER PERFORMED" => Ok(handover_performed(fields)?),
-        "HANDOVER REQUIRED REJECT" => Ok(Bssmap::HandoverRequiredReject {
-            cause: cause_alone(fields)?,
-        }),
-        "HANDOVER DETECT" => Ok(alone(fields, Bssmap::HandoverDetect)?),
-        "CLEAR COMMAND" => Ok(Bssmap::ClearCommand {
-            cause: cause_alone(fields)?,
-        }),
-        "CLEAR COMPLETE" => Ok(alone(fields, Bssmap::ClearComplete)?),
-        "CLEAR REQUEST" => Ok(Bssmap::ClearRequest {
-            cause: cause_alone(fields)?,
-        }),
-        _ => Err(MessageFault::Name(name)),
+    if name == HANDOVER_COMPLETE.name {
+        Ok(handover_complete(fields)?)
+    } else if name == HANDOVER_FAILURE.name {
+        Ok(handover_failure(fields)?)
+    } else if name == HANDOVER_PERFORMED.name {
+        Ok(handover_performed(fields)?)
+    } else if name == HANDOVER_REQUIRED_REJECT.name {
+        let cause = cause_alone(fields, HANDOVER_REQUIRED_REJECT)?;
+        Ok(Bssmap::HandoverRequiredReject { cause })
+    } else if name == HANDOVER_DETECT.name {
+        Ok(alone(fields, HANDOVER_DETECT, Bssmap::HandoverDetect)?)
+    } else if name == CLEAR_COMMAND.name {
+        let cause = cause_alone(fields, CLEAR_COMMAND)?;
+        Ok(Bssmap::ClearCommand { cause })
+    } else if name == CLEAR_COMPLETE.name {
+        Ok(alone(fields, CLEAR_COMPLETE, Bssmap::ClearComplete)?)
+    } else if name == CLEAR_REQUEST.name {
+        let cause = cause_alone(fields, CLEAR_REQUEST)?;
+        Ok(Bssmap::ClearRequest { cause })
+    } else {
+        Err(MessageFault::Name(name))
     }
 }
 
@@ -254,16 +472,18 @@ fn message_of<'a, A: Allocator + Copy>(
 ) -> Result<Bssmap<A>, MessageFault<'a>>
     ensures { faults.Answers result (said.message_of name.now fields.now) }
 {
-    match name {
-        "HANDOVER REQUEST" => Ok(handover_request(alloc, fields)?),
-        "HANDOVER REQUIRED" => Ok(handover_required(alloc, fields)?),
-        "HANDOVER REQUEST ACKNOWLEDGE" => Ok(Bssmap::HandoverRequestAck {
-            layer3: layer3_alone(alloc, fields)?,
-        }),
-        "HANDOVER COMMAND" => Ok(Bssmap::HandoverCommand {
-            layer3: layer3_alone(alloc, fields)?,
-        }),
-        name => short_message(name, fields),
+    if name == HANDOVER_REQUEST.name {
+        Ok(handover_request(alloc, fields)?)
+    } else if name == HANDOVER_REQUIRED.name {
+        Ok(handover_required(alloc, fields)?)
+    } else if name == HANDOVER_REQUEST_ACK.name {
+        let layer3 = layer3_alone(alloc, fields, HANDOVER_REQUEST_ACK)?;
+        Ok(Bssmap::HandoverRequestAck { layer3 })
+    } else if name == HANDOVER_COMMAND.name {
+        let layer3 = layer3_alone(alloc, fields, HANDOVER_COMMAND)?;
+        Ok(Bssmap::HandoverCommand { layer3 })
+    } else {
+        short_message(name, fields)
     }
 }
 

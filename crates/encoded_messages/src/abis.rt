@@ -1,24 +1,237 @@
 //! Messages on Abis from words (TS 48.058 clause 8).
-ghost use Rattle.std.specs.Prelude.{◌≡◌, ◌≢◌, IfOk, IfErr};
+ghost use Rattle.std.specs.Prelude.{◌≡◌, ◌≢◌, ◌∷◌, [], IfOk, IfErr, codes};
+ghost use Rattle.encoded_messages.specs.Fields.{only_keys};
+ghost use Rattle.encoded_messages.specs.Forms.{keys_of};
 ghost use Rattle.encoded_messages.specs.FieldFaults.{read_of, Answers};
 ghost use Rattle.encoded_messages.specs.Faults as faults;
 ghost use Rattle.encoded_messages.specs.Abis as said;
 
 use crate::fault::MessageFault;
-use crate::field_fault::FieldFault;
-use crate::fields::{
-    number, octet, octets, only_keys, optional_octet, optional_octets, traffic_channel,
-};
+use crate::field_fault::{Allowed, FieldFault};
+use crate::fields::only_fields;
+use crate::form::{FieldForm, MessageForm};
 use crate::name::name_and_fields;
+use crate::visit::{FieldValue, Fields, hand_on};
 use rsl_messages::{ChanBits, Octets, Rsl, encode, fits};
 use std::alloc::Allocator;
+
+/// The fields of messages on Abis.
+const TN: FieldForm<'static> = FieldForm("tn", Allowed::TrafficChannel);
+
+const LINK: FieldForm<'static> = FieldForm("link", Allowed::Number(255));
+
+const LAYER3: FieldForm<'static> = FieldForm("layer3", Allowed::Octets(1));
+
+const ACTIVATION: FieldForm<'static> = FieldForm("activation", Allowed::Number(255));
+
+const MODE: FieldForm<'static> = FieldForm("mode", Allowed::Octets(1));
+
+const REFERENCE: FieldForm<'static> = FieldForm("reference", Allowed::OptionalOctet);
+
+const FRAME: FieldForm<'static> = FieldForm("frame", Allowed::Number(65535));
+
+const CAUSE: FieldForm<'static> = FieldForm("cause", Allowed::Number(255));
+
+const DELAY: FieldForm<'static> = FieldForm("delay", Allowed::OptionalOctet);
+
+const NUMBER: FieldForm<'static> = FieldForm("number", Allowed::Number(255));
+
+const UPLINK: FieldForm<'static> = FieldForm("uplink", Allowed::Octets(0));
+
+const POWER: FieldForm<'static> = FieldForm("power", Allowed::Number(255));
+
+const REPORT: FieldForm<'static> = FieldForm("layer3", Allowed::OptionalOctets(1));
+
+/// TS 48.058 clause 8.3.1.
+const DATA_REQUEST: MessageForm<'static> = MessageForm {
+    name: "DATA REQUEST",
+    fields: &[TN, LINK, LAYER3],
+};
+/// TS 48.058 clause 8.3.2.
+const DATA_INDICATION: MessageForm<'static> = MessageForm {
+    name: "DATA INDICATION",
+    fields: &[TN, LINK, LAYER3],
+};
+/// TS 48.058 clause 8.4.1.
+const CHANNEL_ACTIVATION: MessageForm<'static> = MessageForm {
+    name: "CHANNEL ACTIVATION",
+    fields: &[TN, ACTIVATION, MODE, REFERENCE],
+};
+/// TS 48.058 clause 8.4.2.
+const CHANNEL_ACTIVATION_ACK: MessageForm<'static> = MessageForm {
+    name: "CHANNEL ACTIVATION ACK",
+    fields: &[TN, FRAME],
+};
+/// TS 48.058 clause 8.4.3.
+const CHANNEL_ACTIVATION_NACK: MessageForm<'static> = MessageForm {
+    name: "CHANNEL ACTIVATION NACK",
+    fields: &[TN, CAUSE],
+};
+/// TS 48.058 clause 8.4.4.
+const CONNECTION_FAILURE_INDICATION: MessageForm<'static> = MessageForm {
+    name: "CONNECTION FAILURE INDICATION",
+    fields: &[TN, CAUSE],
+};
+/// TS 48.058 clause 8.4.7.
+const HANDOVER_DETECTION: MessageForm<'static> = MessageForm {
+    name: "HANDOVER DETECTION",
+    fields: &[TN, DELAY],
+};
+/// TS 48.058 clause 8.4.8.
+const MEASUREMENT_RESULT: MessageForm<'static> = MessageForm {
+    name: "MEASUREMENT RESULT",
+    fields: &[TN, NUMBER, UPLINK, POWER, REPORT],
+};
+/// TS 48.058 clause 8.4.14.
+const RF_CHANNEL_RELEASE: MessageForm<'static> = MessageForm {
+    name: "RF CHANNEL RELEASE",
+    fields: &[TN],
+};
+/// TS 48.058 clause 8.4.19.
+const RF_CHANNEL_RELEASE_ACK: MessageForm<'static> = MessageForm {
+    name: "RF CHANNEL RELEASE ACK",
+    fields: &[TN],
+};
+
+/// The messages on Abis, in the order in which they are listed.
+pub const ABIS_FORMS: &[MessageForm<'static>] = &[
+    CHANNEL_ACTIVATION,
+    CHANNEL_ACTIVATION_ACK,
+    CHANNEL_ACTIVATION_NACK,
+    RF_CHANNEL_RELEASE,
+    RF_CHANNEL_RELEASE_ACK,
+    CONNECTION_FAILURE_INDICATION,
+    DATA_REQUEST,
+    DATA_INDICATION,
+    HANDOVER_DETECTION,
+    MEASUREMENT_RESULT,
+];
+
+/// The form of a message on Abis.
+fn form_of<A: Allocator>(message: &Rsl<A>) -> MessageForm<'static> {
+    match message {
+        Rsl::DataRequest { .. } => DATA_REQUEST,
+        Rsl::DataIndication { .. } => DATA_INDICATION,
+        Rsl::ChannelActivation { .. } => CHANNEL_ACTIVATION,
+        Rsl::ChannelActivationAck { .. } => CHANNEL_ACTIVATION_ACK,
+        Rsl::ChannelActivationNack { .. } => CHANNEL_ACTIVATION_NACK,
+        Rsl::ConnectionFailureIndication { .. } => CONNECTION_FAILURE_INDICATION,
+        Rsl::HandoverDetection { .. } => HANDOVER_DETECTION,
+        Rsl::MeasurementResult { .. } => MEASUREMENT_RESULT,
+        Rsl::RfChannelRelease { .. } => RF_CHANNEL_RELEASE,
+        Rsl::RfChannelReleaseAck { .. } => RF_CHANNEL_RELEASE_ACK,
+    }
+}
+
+/// The name of a message on Abis.
+pub fn abis_name<A: Allocator>(message: &Rsl<A>) -> &'static str {
+    form_of(message).name
+}
+
+/// The value of the channel that a message is about.
+fn channel_value<'m>(channel: ChanBits) -> FieldValue<'m> {
+    FieldValue::Channel(channel.tn, channel.sub)
+}
+
+/// The value of an octet.
+fn octet_value<'m>(octet: u8) -> FieldValue<'m> {
+    FieldValue::Number(u16::from(octet))
+}
+
+/// Hands on the fields of a message on Abis.
+pub fn visit_abis<'m, A: Allocator, V: Fields<'m>>(
+    message: &'m Rsl<A>,
+    visitor: &mut V,
+) -> Result<(), V::Stop> {
+    let form = form_of(message);
+    match message {
+        Rsl::DataRequest {
+            channel,
+            link,
+            layer3,
+        }
+        | Rsl::DataIndication {
+            channel,
+            link,
+            layer3,
+        } => {
+            let layer3 = FieldValue::Layer3(Some(layer3.as_slice()));
+            hand_on(
+                form,
+                &[channel_value(*channel), octet_value(*link), layer3],
+                visitor,
+            )
+        }
+        Rsl::ChannelActivation {
+            channel,
+            activation,
+            mode,
+            reference,
+        } => {
+            let mode = FieldValue::Octets(mode.as_slice());
+            let reference = FieldValue::OptionalOctet(*reference);
+            let values = [
+                channel_value(*channel),
+                octet_value(*activation),
+                mode,
+                reference,
+            ];
+            hand_on(form, &values, visitor)
+        }
+        Rsl::ChannelActivationAck { channel, frame } => hand_on(
+            form,
+            &[channel_value(*channel), FieldValue::Number(*frame)],
+            visitor,
+        ),
+        Rsl::ChannelActivationNack { channel, cause }
+        | Rsl::ConnectionFailureIndication { channel, cause } => hand_on(
+            form,
+            &[channel_value(*channel), FieldValue::Cause(*cause)],
+            visitor,
+        ),
+        Rsl::HandoverDetection { channel, delay } => hand_on(
+            form,
+            &[channel_value(*channel), FieldValue::OptionalOctet(*delay)],
+            visitor,
+        ),
+        Rsl::MeasurementResult {
+            channel,
+            number,
+            uplink,
+            power,
+            layer3,
+        } => {
+            let values = [
+                channel_value(*channel),
+                octet_value(*number),
+                FieldValue::Octets(uplink.as_slice()),
+                octet_value(*power),
+                FieldValue::Layer3(report_in(layer3)),
+            ];
+            hand_on(form, &values, visitor)
+        }
+        Rsl::RfChannelRelease { channel } | Rsl::RfChannelReleaseAck { channel } => hand_on(
+            form,
+            &[channel_value(*channel)],
+            visitor,
+        ),
+    }
+}
+
+/// The octets of the mobile's measurement report, where there are any.
+fn report_in<A: Allocator>(layer3: &Option<Octets<A>>) -> Option<&[u8]> {
+    match layer3 {
+        Some(layer3) => Some(layer3.as_slice()),
+        None => None,
+    }
+}
 
 /// The channel that a message is about.
 #[tactic(auto, unfolding(crate::specs::Abis::channel))]
 fn channel(fields: &str) -> Result<ChanBits, FieldFault<'_>>
     ensures { read_of result ≡ said.channel fields.now }
 {
-    let (tn, sub) = traffic_channel(fields, "tn")?;
+    let (tn, sub) = TN.traffic_channel(fields)?;
     Ok(ChanBits { tn, sub })
 }
 
@@ -27,10 +240,10 @@ fn channel(fields: &str) -> Result<ChanBits, FieldFault<'_>>
 fn data_request<A: Allocator>(alloc: A, fields: &str) -> Result<Rsl<A>, FieldFault<'_>>
     ensures { Answers result (said.data_request fields.now) }
 {
-    only_keys(fields, "tn link layer3")?;
+    only_fields(fields, DATA_REQUEST)?;
     let channel = channel(fields)?;
-    let link = octet(fields, "link")?;
-    let layer3 = Octets::from_vec(octets(alloc, fields, "layer3", 1)?);
+    let link = LINK.octet(fields)?;
+    let layer3 = Octets::from_vec(LAYER3.octets(alloc, fields)?);
     Ok(Rsl::DataRequest {
         channel,
         link,
@@ -43,10 +256,10 @@ fn data_request<A: Allocator>(alloc: A, fields: &str) -> Result<Rsl<A>, FieldFau
 fn data_indication<A: Allocator>(alloc: A, fields: &str) -> Result<Rsl<A>, FieldFault<'_>>
     ensures { Answers result (said.data_indication fields.now) }
 {
-    only_keys(fields, "tn link layer3")?;
+    only_fields(fields, DATA_INDICATION)?;
     let channel = channel(fields)?;
-    let link = octet(fields, "link")?;
-    let layer3 = Octets::from_vec(octets(alloc, fields, "layer3", 1)?);
+    let link = LINK.octet(fields)?;
+    let layer3 = Octets::from_vec(LAYER3.octets(alloc, fields)?);
     Ok(Rsl::DataIndication {
         channel,
         link,
@@ -54,16 +267,24 @@ fn data_indication<A: Allocator>(alloc: A, fields: &str) -> Result<Rsl<A>, Field
     })
 }
 
+/// Refuses a word that is no field of CHANNEL ACTIVATION.
+#[tactic(auto, unfolding(crate::specs::Abis::activation_keys))]
+fn only_in_activation(fields: &str) -> Result<(), FieldFault<'_>>
+    ensures { read_of result ≡ only_keys said.activation_keys fields.now }
+{
+    only_fields(fields, CHANNEL_ACTIVATION)
+}
+
 /// CHANNEL ACTIVATION
 #[tactic(auto, unfolding(crate::specs::Abis::activation))]
 fn activation<A: Allocator>(alloc: A, fields: &str) -> Result<Rsl<A>, FieldFault<'_>>
     ensures { Answers result (said.activation fields.now) }
 {
-    only_keys(fields, "tn activation mode reference")?;
+    only_in_activation(fields)?;
     let channel = channel(fields)?;
-    let activation = octet(fields, "activation")?;
-    let mode = Octets::from_vec(octets(alloc, fields, "mode", 1)?);
-    let reference = optional_octet(fields, "reference")?;
+    let activation = ACTIVATION.octet(fields)?;
+    let mode = Octets::from_vec(MODE.octets(alloc, fields)?);
+    let reference = REFERENCE.optional_octet(fields)?;
     Ok(Rsl::ChannelActivation {
         channel,
         activation,
@@ -77,21 +298,22 @@ fn activation<A: Allocator>(alloc: A, fields: &str) -> Result<Rsl<A>, FieldFault
 fn activation_ack<A: Allocator>(fields: &str) -> Result<Rsl<A>, FieldFault<'_>>
     ensures { read_of result ≡ said.activation_ack fields.now }
 {
-    only_keys(fields, "tn frame")?;
+    only_fields(fields, CHANNEL_ACTIVATION_ACK)?;
     Ok(Rsl::ChannelActivationAck {
         channel: channel(fields)?,
-        frame: number(fields, "frame", 65535)?,
+        frame: FRAME.number(fields)?,
     })
 }
 
 /// The fields of CHANNEL ACTIVATION NACK and of CONNECTION FAILURE INDICATION: channel and cause.
 #[tactic(auto, unfolding(crate::specs::Abis::cause))]
-fn cause(fields: &str) -> Result<(ChanBits, u8), FieldFault<'_>>
+fn cause<'a>(fields: &'a str, form: MessageForm<'static>) -> Result<(ChanBits, u8), FieldFault<'a>>
+    requires { keys_of form.fields.now ≡ codes "tn" ∷ codes "cause" ∷ [] }
     ensures { read_of result ≡ said.cause fields.now }
 {
-    only_keys(fields, "tn cause")?;
+    only_fields(fields, form)?;
     let channel = channel(fields)?;
-    let cause = octet(fields, "cause")?;
+    let cause = CAUSE.octet(fields)?;
     Ok((channel, cause))
 }
 
@@ -100,11 +322,19 @@ fn cause(fields: &str) -> Result<(ChanBits, u8), FieldFault<'_>>
 fn detection<A: Allocator>(fields: &str) -> Result<Rsl<A>, FieldFault<'_>>
     ensures { read_of result ≡ said.detection fields.now }
 {
-    only_keys(fields, "tn delay")?;
+    only_fields(fields, HANDOVER_DETECTION)?;
     Ok(Rsl::HandoverDetection {
         channel: channel(fields)?,
-        delay: optional_octet(fields, "delay")?,
+        delay: DELAY.optional_octet(fields)?,
     })
+}
+
+/// Refuses a word that is no field of MEASUREMENT RESULT.
+#[tactic(auto, unfolding(crate::specs::Abis::measurement_keys))]
+fn only_in_measurement(fields: &str) -> Result<(), FieldFault<'_>>
+    ensures { read_of result ≡ only_keys said.measurement_keys fields.now }
+{
+    only_fields(fields, MEASUREMENT_RESULT)
 }
 
 /// MEASUREMENT RESULT
@@ -112,14 +342,14 @@ fn detection<A: Allocator>(fields: &str) -> Result<Rsl<A>, FieldFault<'_>>
 fn measurement<A: Allocator + Copy>(alloc: A, fields: &str) -> Result<Rsl<A>, FieldFault<'_>>
     ensures { Answers result (said.measurement fields.now) }
 {
-    only_keys(fields, "tn number uplink power layer3")?;
+    only_in_measurement(fields)?;
     let channel = channel(fields)?;
-    let number = octet(fields, "number")?;
-    let uplink = Octets::from_vec(octets(alloc, fields, "uplink", 0)?);
-    let power = octet(fields, "power")?;
-    let layer3 = optional_octets(alloc, fields, "layer3", 1)?.map(|octets| Octets::from_vec(
-        octets,
-    ));
+    let number = NUMBER.octet(fields)?;
+    let uplink = Octets::from_vec(UPLINK.octets(alloc, fields)?);
+    let power = POWER.octet(fields)?;
+    let layer3 = REPORT
+        .optional_octets(alloc, fields)?
+        .map(|octets| Octets::from_vec(octets));
     Ok(Rsl::MeasurementResult {
         channel,
         number,
@@ -131,10 +361,14 @@ fn measurement<A: Allocator + Copy>(alloc: A, fields: &str) -> Result<Rsl<A>, Fi
 
 /// The channel of a message that has nothing else.
 #[tactic(auto, unfolding(crate::specs::Abis::channel_alone))]
-fn channel_alone(fields: &str) -> Result<ChanBits, FieldFault<'_>>
+fn channel_alone<'a>(
+    fields: &'a str,
+    form: MessageForm<'static>,
+) -> Result<ChanBits, FieldFault<'a>>
+    requires { keys_of form.fields.now ≡ codes "tn" ∷ [] }
     ensures { read_of result ≡ said.channel_alone fields.now }
 {
-    only_keys(fields, "tn")?;
+    only_fields(fields, form)?;
     channel(fields)
 }
 
@@ -146,24 +380,24 @@ fn short_message<'a, A: Allocator>(
 ) -> Result<Rsl<A>, MessageFault<'a>>
     ensures { faults.read_of result ≡ said.short_message name.now fields.now }
 {
-    match name {
-        "CHANNEL ACTIVATION ACK" => Ok(activation_ack(fields)?),
-        "CHANNEL ACTIVATION NACK" => {
-            let (channel, cause) = cause(fields)?;
-            Ok(Rsl::ChannelActivationNack { channel, cause })
-        }
-        "CONNECTION FAILURE INDICATION" => {
-            let (channel, cause) = cause(fields)?;
-            Ok(Rsl::ConnectionFailureIndication { channel, cause })
-        }
-        "HANDOVER DETECTION" => Ok(detection(fields)?),
-        "RF CHANNEL RELEASE" => Ok(Rsl::RfChannelRelease {
-            channel: channel_alone(fields)?,
-        }),
-        "RF CHANNEL RELEASE ACK" => Ok(Rsl::RfChannelReleaseAck {
-            channel: channel_alone(fields)?,
-        }),
-        _ => Err(MessageFault::Name(name)),
+    if name == CHANNEL_ACTIVATION_ACK.name {
+        Ok(activation_ack(fields)?)
+    } else if name == CHANNEL_ACTIVATION_NACK.name {
+        let (channel, cause) = cause(fields, CHANNEL_ACTIVATION_NACK)?;
+        Ok(Rsl::ChannelActivationNack { channel, cause })
+    } else if name == CONNECTION_FAILURE_INDICATION.name {
+        let (channel, cause) = cause(fields, CONNECTION_FAILURE_INDICATION)?;
+        Ok(Rsl::ConnectionFailureIndication { channel, cause })
+    } else if name == HANDOVER_DETECTION.name {
+        Ok(detection(fields)?)
+    } else if name == RF_CHANNEL_RELEASE.name {
+        let channel = channel_alone(fields, RF_CHANNEL_RELEASE)?;
+        Ok(Rsl::RfChannelRelease { channel })
+    } else if name == RF_CHANNEL_RELEASE_ACK.name {
+        let channel = channel_alone(fields, RF_CHANNEL_RELEASE_ACK)?;
+        Ok(Rsl::RfChannelReleaseAck { channel })
+    } else {
+        Err(MessageFault::Name(name))
     }
 }
 
@@ -176,12 +410,16 @@ fn message_of<'a, A: Allocator + Copy>(
 ) -> Result<Rsl<A>, MessageFault<'a>>
     ensures { faults.Answers result (said.message_of name.now fields.now) }
 {
-    match name {
-        "DATA REQUEST" => Ok(data_request(alloc, fields)?),
-        "DATA INDICATION" => Ok(data_indication(alloc, fields)?),
-        "CHANNEL ACTIVATION" => Ok(activation(alloc, fields)?),
-        "MEASUREMENT RESULT" => Ok(measurement(alloc, fields)?),
-        name => short_message(name, fields),
+    if name == DATA_REQUEST.name {
+        Ok(data_request(alloc, fields)?)
+    } else if name == DATA_INDICATION.name {
+        Ok(data_indication(alloc, fields)?)
+    } else if name == CHANNEL_ACTIVATION.name {
+        Ok(activation(alloc, fields)?)
+    } else if name == MEASUREMENT_RESULT.name {
+        Ok(measurement(alloc, fields)?)
+    } else {
+        short_message(name, fields)
     }
 }
 

@@ -7,23 +7,28 @@ ghost use Rattle.std.specs.Result.{result_map_both};
 ghost use Rattle.encoded_messages.specs.Words.{words_of, values_of};
 ghost use Rattle.encoded_messages.specs.FieldFaults.{read_of, fault_of};
 ghost use Rattle.encoded_messages.specs.Fields as said;
+ghost use Rattle.encoded_messages.specs.Forms.{keys_of};
 ghost use Rattle.encoded_messages.specs.declared.field_fault.FieldFault.TheVariants.{NoMemory};
 
 use crate::field_fault::{Allowed, FieldFault};
+use crate::form::MessageForm;
 use crate::values::{flag_in, number_in, octet_in, octets_in, traffic_channel_in};
 use crate::words::{first_unknown, first_value};
 use rsl_messages::Sub;
 use std::alloc::Allocator;
 
-/// Refuses the first word that is no field with one of these keys, which stand with one blank between any two.
+/// Refuses the first word that is no field of a message of this form.
 #[tactic(auto, unfolding(crate::specs::Fields::only_keys))]
-pub fn only_keys<'a>(fields: &'a str, keys: &str) -> Result<(), FieldFault<'a>>
-    ensures keys { read_of result ≡ said.only_keys keys.now fields.now }
+pub(crate) fn only_fields<'a>(
+    fields: &'a str,
+    form: MessageForm<'static>,
+) -> Result<(), FieldFault<'a>>
+    ensures { read_of result ≡ said.only_keys (keys_of form.entry.fields.now) fields.now }
 {
     if fields.is_empty() {
         return Ok(());
     }
-    match first_unknown(keys, fields) {
+    match first_unknown(form.fields, fields) {
         Some(word) => Err(FieldFault::Unknown(word)),
         None => Ok(()),
     }

@@ -1,5 +1,7 @@
 //! Radio resource messages from words (TS 44.018 section 9.1).
 ghost use Rattle.std.specs.Prelude.{◌≡◌, ◌≢◌, ◌++◌, ◌∷◌, [], Ok, Err, Some, None, codes, option_map, OnOk, IfOk, IfErr, IfSome, MatchResult, All};
+ghost use Rattle.encoded_messages.specs.Fields.{only_keys};
+ghost use Rattle.encoded_messages.specs.Forms.{keys_of};
 ghost use Rattle.encoded_messages.specs.FieldFaults.{Value, read_of, read_map, fault_of};
 ghost use Rattle.encoded_messages.specs.declared.field_fault.Allowed.TheVariants.{Neighbour};
 ghost use Rattle.encoded_messages.specs.declared.field_fault.FieldFault.TheVariants.{NoMemory};
@@ -9,21 +11,196 @@ ghost use Rattle.encoded_messages.specs.Rr as said;
 
 use crate::fault::MessageFault;
 use crate::field_fault::{Allowed, FieldFault};
-use crate::fields::{flag, leading_value, number, octet, only_keys, small, traffic_channel};
+use crate::fields::{leading_value, only_fields};
+use crate::form::{FieldForm, MessageForm};
 use crate::name::name_and_fields;
 use crate::values::neighbour_in;
+use crate::visit::{FieldValue, Fields, hand_on};
 use rr_elements::{CellDescription, ChanDescription, MeasHead, MeasResults, Ncell, Power, RrCause};
 use rr_messages::{Rr, encode};
 use std::alloc::Allocator;
+
+/// The fields of radio resource messages.
+const ARFCN: FieldForm<'static> = FieldForm("arfcn", Allowed::Number(1023));
+
+const NCC: FieldForm<'static> = FieldForm("ncc", Allowed::Number(7));
+
+const BCC: FieldForm<'static> = FieldForm("bcc", Allowed::Number(7));
+
+const TN: FieldForm<'static> = FieldForm("tn", Allowed::TrafficChannel);
+
+const TSC: FieldForm<'static> = FieldForm("tsc", Allowed::Number(7));
+
+const CARRIER: FieldForm<'static> = FieldForm("carrier", Allowed::Number(1023));
+
+const REFERENCE: FieldForm<'static> = FieldForm("reference", Allowed::Number(255));
+
+const ATC: FieldForm<'static> = FieldForm("atc", Allowed::Flag);
+
+const POWER: FieldForm<'static> = FieldForm("power", Allowed::Number(31));
+
+const CAUSE: FieldForm<'static> = FieldForm("cause", Allowed::Number(255));
+
+const TA: FieldForm<'static> = FieldForm("ta", Allowed::Number(255));
+
+const BA: FieldForm<'static> = FieldForm("ba", Allowed::Flag);
+
+const DTX: FieldForm<'static> = FieldForm("dtx", Allowed::Flag);
+
+const FULL: FieldForm<'static> = FieldForm("full", Allowed::Number(63));
+
+const BA3G: FieldForm<'static> = FieldForm("ba3g", Allowed::Flag);
+
+const VALID: FieldForm<'static> = FieldForm("valid", Allowed::Flag);
+
+const SUB: FieldForm<'static> = FieldForm("sub", Allowed::Number(63));
+
+const SI23: FieldForm<'static> = FieldForm("si23", Allowed::Flag);
+
+const QFULL: FieldForm<'static> = FieldForm("qfull", Allowed::Number(7));
+
+const QSUB: FieldForm<'static> = FieldForm("qsub", Allowed::Number(7));
+
+const COUNT: FieldForm<'static> = FieldForm("count", Allowed::Number(7));
+
+const N: FieldForm<'static> = FieldForm("n", Allowed::Neighbour);
+
+/// TS 44.018 section 9.1.15.
+const HANDOVER_COMMAND: MessageForm<'static> = MessageForm {
+    name: "HANDOVER COMMAND",
+    fields: &[ARFCN, NCC, BCC, TN, TSC, CARRIER, REFERENCE, ATC, POWER],
+};
+/// TS 44.018 section 9.1.16.
+const HANDOVER_COMPLETE: MessageForm<'static> = MessageForm {
+    name: "HANDOVER COMPLETE",
+    fields: &[CAUSE],
+};
+/// TS 44.018 section 9.1.17.
+const HANDOVER_FAILURE: MessageForm<'static> = MessageForm {
+    name: "HANDOVER FAILURE",
+    fields: &[CAUSE],
+};
+/// TS 44.018 section 9.1.7.
+const CHANNEL_RELEASE: MessageForm<'static> = MessageForm {
+    name: "CHANNEL RELEASE",
+    fields: &[CAUSE],
+};
+/// TS 44.018 section 9.1.28.
+const PHYSICAL_INFORMATION: MessageForm<'static> = MessageForm {
+    name: "PHYSICAL INFORMATION",
+    fields: &[TA],
+};
+/// TS 44.018 section 9.1.21.
+const MEASUREMENT_REPORT: MessageForm<'static> = MessageForm {
+    name: "MEASUREMENT REPORT",
+    fields: &[BA, DTX, FULL, BA3G, VALID, SUB, SI23, QFULL, QSUB, COUNT, N],
+};
+
+/// The radio resource messages, in the order in which they are listed.
+pub const RR_FORMS: &[MessageForm<'static>] = &[
+    HANDOVER_COMMAND,
+    HANDOVER_COMPLETE,
+    HANDOVER_FAILURE,
+    CHANNEL_RELEASE,
+    PHYSICAL_INFORMATION,
+    MEASUREMENT_REPORT,
+];
+
+/// The form of a radio resource message.
+fn form_of(message: &Rr) -> MessageForm<'static> {
+    match message {
+        Rr::HandoverCommand { .. } => HANDOVER_COMMAND,
+        Rr::HandoverComplete(_) => HANDOVER_COMPLETE,
+        Rr::HandoverFailure(_) => HANDOVER_FAILURE,
+        Rr::ChannelRelease(_) => CHANNEL_RELEASE,
+        Rr::PhysicalInformation(_) => PHYSICAL_INFORMATION,
+        Rr::MeasurementReport(_) => MEASUREMENT_REPORT,
+    }
+}
+
+/// The name of a radio resource message.
+pub fn rr_name(message: &Rr) -> &'static str {
+    form_of(message).name
+}
+
+/// The value of an octet.
+fn octet_value<'m>(octet: u8) -> FieldValue<'m> {
+    FieldValue::Number(u16::from(octet))
+}
+
+/// Hands on the fields of a HANDOVER COMMAND.
+fn visit_command<'m, V: Fields<'m>>(
+    cell: CellDescription,
+    channel: ChanDescription,
+    reference: u8,
+    power: Power,
+    visitor: &mut V,
+) -> Result<(), V::Stop> {
+    let values = [
+        FieldValue::Number(cell.arfcn()),
+        octet_value(cell.ncc()),
+        octet_value(cell.bcc()),
+        FieldValue::Channel(channel.tn(), channel.sub()),
+        octet_value(channel.tsc()),
+        FieldValue::Number(channel.carrier()),
+        octet_value(reference),
+        FieldValue::Flag(power.atc()),
+        octet_value(power.level()),
+    ];
+    hand_on(HANDOVER_COMMAND, &values, visitor)
+}
+
+/// Hands on the fields of a MEASUREMENT REPORT: those of its head, and one for each neighbour in use.
+fn visit_report<'m, V: Fields<'m>>(
+    results: &'m MeasResults,
+    visitor: &mut V,
+) -> Result<(), V::Stop> {
+    let head = results.head();
+    let values = [
+        FieldValue::Flag(head.ba),
+        FieldValue::Flag(head.dtx),
+        octet_value(head.full),
+        FieldValue::Flag(head.ba3g),
+        FieldValue::Flag(head.valid),
+        octet_value(head.sub),
+        FieldValue::Flag(head.si23),
+        octet_value(head.qfull),
+        octet_value(head.qsub),
+        octet_value(head.count),
+    ];
+    hand_on(MEASUREMENT_REPORT, &values, visitor)?;
+    for neighbour in results.neighbours() {
+        visitor.field(N.0, FieldValue::Neighbour(*neighbour))?;
+    }
+    Ok(())
+}
+
+/// Hands on the fields of a radio resource message.
+pub fn visit_rr<'m, V: Fields<'m>>(message: &'m Rr, visitor: &mut V) -> Result<(), V::Stop> {
+    let form = form_of(message);
+    match message {
+        Rr::HandoverCommand {
+            cell,
+            channel,
+            reference,
+            power,
+        } => visit_command(*cell, *channel, *reference, *power, visitor),
+        Rr::HandoverComplete(cause) | Rr::HandoverFailure(cause) | Rr::ChannelRelease(cause) => {
+            hand_on(form, &[FieldValue::Cause(cause.value())], visitor)
+        }
+        Rr::PhysicalInformation(advance) => hand_on(form, &[octet_value(*advance)], visitor),
+        Rr::MeasurementReport(results) => visit_report(results, visitor),
+    }
+}
 
 /// The cell that a handover goes to.
 #[tactic(auto, unfolding(crate::specs::Rr::cell))]
 fn cell(fields: &str) -> Result<CellDescription, FieldFault<'_>>
     ensures { read_of result ≡ said.cell fields.now }
 {
-    let arfcn = number(fields, "arfcn", 1023)?;
-    let ncc = small(fields, "ncc", 7)?;
-    let bcc = small(fields, "bcc", 7)?;
+    let arfcn = ARFCN.number(fields)?;
+    let ncc = NCC.octet(fields)?;
+    let bcc = BCC.octet(fields)?;
     match CellDescription::new(arfcn, ncc, bcc) {
         Ok(cell) => Ok(cell),
         Err(_) => unreachable!(),
@@ -35,9 +212,9 @@ fn cell(fields: &str) -> Result<CellDescription, FieldFault<'_>>
 fn channel(fields: &str) -> Result<ChanDescription, FieldFault<'_>>
     ensures { read_of result ≡ said.channel fields.now }
 {
-    let (tn, sub) = traffic_channel(fields, "tn")?;
-    let tsc = small(fields, "tsc", 7)?;
-    let carrier = number(fields, "carrier", 1023)?;
+    let (tn, sub) = TN.traffic_channel(fields)?;
+    let tsc = TSC.octet(fields)?;
+    let carrier = CARRIER.number(fields)?;
     match ChanDescription::new(tn, sub, tsc, carrier) {
         Ok(channel) => Ok(channel),
         Err(_) => unreachable!(),
@@ -49,12 +226,20 @@ fn channel(fields: &str) -> Result<ChanDescription, FieldFault<'_>>
 fn power(fields: &str) -> Result<Power, FieldFault<'_>>
     ensures { read_of result ≡ said.power fields.now }
 {
-    let atc = flag(fields, "atc")?;
-    let level = small(fields, "power", 31)?;
+    let atc = ATC.flag(fields)?;
+    let level = POWER.octet(fields)?;
     match Power::new(atc, level) {
         Ok(power) => Ok(power),
         Err(_) => unreachable!(),
     }
+}
+
+/// Refuses a word that is no field of HANDOVER COMMAND.
+#[tactic(auto, unfolding(crate::specs::Rr::command_keys))]
+fn only_in_command(fields: &str) -> Result<(), FieldFault<'_>>
+    ensures { read_of result ≡ only_keys said.command_keys fields.now }
+{
+    only_fields(fields, HANDOVER_COMMAND)
 }
 
 /// HANDOVER COMMAND
@@ -62,7 +247,7 @@ fn power(fields: &str) -> Result<Power, FieldFault<'_>>
 fn handover_command(fields: &str) -> Result<Rr, FieldFault<'_>>
     ensures { read_of result ≡ said.handover_command fields.now }
 {
-    only_keys(fields, "arfcn ncc bcc tn tsc carrier reference atc power")?;
+    only_in_command(fields)?;
     let cell = match cell(fields) {
         Ok(cell) => cell,
         Err(fault) => return Err(fault),
@@ -71,7 +256,7 @@ fn handover_command(fields: &str) -> Result<Rr, FieldFault<'_>>
         Ok(channel) => channel,
         Err(fault) => return Err(fault),
     };
-    let reference = octet(fields, "reference")?;
+    let reference = REFERENCE.octet(fields)?;
     match power(fields) {
         Ok(power) => Ok(Rr::HandoverCommand {
             cell,
@@ -85,11 +270,12 @@ fn handover_command(fields: &str) -> Result<Rr, FieldFault<'_>>
 
 /// The cause of a message that has nothing else.
 #[tactic(auto, unfolding(crate::specs::Rr::cause_alone))]
-fn cause_alone(fields: &str) -> Result<RrCause, FieldFault<'_>>
+fn cause_alone<'a>(fields: &'a str, form: MessageForm<'static>) -> Result<RrCause, FieldFault<'a>>
+    requires { keys_of form.fields.now ≡ codes "cause" ∷ [] }
     ensures { read_of result ≡ said.cause_alone fields.now }
 {
-    only_keys(fields, "cause")?;
-    Ok(RrCause(octet(fields, "cause")?))
+    only_fields(fields, form)?;
+    Ok(RrCause(CAUSE.octet(fields)?))
 }
 
 /// PHYSICAL INFORMATION
@@ -97,8 +283,8 @@ fn cause_alone(fields: &str) -> Result<RrCause, FieldFault<'_>>
 fn physical_information(fields: &str) -> Result<Rr, FieldFault<'_>>
     ensures { read_of result ≡ said.physical_information fields.now }
 {
-    only_keys(fields, "ta")?;
-    Ok(Rr::PhysicalInformation(octet(fields, "ta")?))
+    only_fields(fields, PHYSICAL_INFORMATION)?;
+    Ok(Rr::PhysicalInformation(TA.octet(fields)?))
 }
 
 /// The fields of a MEASUREMENT REPORT before the neighbours.
@@ -108,16 +294,16 @@ fn head(fields: &str) -> Result<MeasHead, FieldFault<'_>>
     ensures fits { IfOk result HeadFits }
 {
     Ok(MeasHead {
-        ba: flag(fields, "ba")?,
-        dtx: flag(fields, "dtx")?,
-        full: small(fields, "full", 63)?,
-        ba3g: flag(fields, "ba3g")?,
-        valid: flag(fields, "valid")?,
-        sub: small(fields, "sub", 63)?,
-        si23: flag(fields, "si23")?,
-        qfull: small(fields, "qfull", 7)?,
-        qsub: small(fields, "qsub", 7)?,
-        count: small(fields, "count", 7)?,
+        ba: BA.flag(fields)?,
+        dtx: DTX.flag(fields)?,
+        full: FULL.octet(fields)?,
+        ba3g: BA3G.flag(fields)?,
+        valid: VALID.flag(fields)?,
+        sub: SUB.octet(fields)?,
+        si23: SI23.flag(fields)?,
+        qfull: QFULL.octet(fields)?,
+        qsub: QSUB.octet(fields)?,
+        count: COUNT.octet(fields)?,
     })
 }
 
@@ -149,9 +335,9 @@ fn add_neighbour<'a, A: Allocator>(
 {
     let Some(neighbour) = neighbour_of(value) else {
         return Err(FieldFault::Value {
-            key: "n",
+            key: N.0,
             value,
-            allowed: Allowed::Neighbour,
+            allowed: N.1,
         });
     };
     found.push(neighbour).map_err(|_| FieldFault::NoMemory)
@@ -171,7 +357,7 @@ fn add_neighbours<'a, A: Allocator>(
         said.neighbours_in fields.now ≡ Err (fault_of fault)) }
 {
     let mut left = fields;
-    while let Some((value, rest)) = leading_value(left, "n") {
+    while let Some((value, rest)) = leading_value(left, N.0) {
         add_neighbour(found, value)?;
         left = rest;
     }
@@ -188,6 +374,14 @@ fn used(count: u8) -> usize
     }
 }
 
+/// Refuses a word that is no field of MEASUREMENT REPORT.
+#[tactic(auto, unfolding(crate::specs::Rr::report_keys))]
+fn only_in_report(fields: &str) -> Result<(), FieldFault<'_>>
+    ensures { read_of result ≡ only_keys said.report_keys fields.now }
+{
+    only_fields(fields, MEASUREMENT_REPORT)
+}
+
 /// What is measured, which is a MEASUREMENT REPORT once there are as many neighbours as it says.
 #[tactic(auto, unfolding(crate::specs::Rr::measured))]
 fn measured<A: Allocator>(
@@ -199,7 +393,7 @@ fn measured<A: Allocator>(
         (λ fault. fault ≢ NoMemory → said.measured fields.now ≡ Err (fault_of fault)) }
     ensures fits { IfOk result (λ found. HeadFits found.0 × All NcellFits found.1.items) }
 {
-    only_keys(fields, "ba dtx full ba3g valid sub si23 qfull qsub count n")?;
+    only_in_report(fields)?;
     let head = head(fields)?;
     let mut neighbours = Vec::new(alloc);
     add_neighbours(&mut neighbours, fields)?;
@@ -232,20 +426,26 @@ fn message_of<'a, A: Allocator>(
 ) -> Result<Rr, MessageFault<'a>>
     ensures { faults.Answers result (said.message_of name.now fields.now) }
 {
-    match name {
-        "HANDOVER COMMAND" => match handover_command(fields) {
+    if name == HANDOVER_COMMAND.name {
+        match handover_command(fields) {
             Ok(message) => Ok(message),
             Err(fault) => Err(MessageFault::from(fault)),
-        },
-        "HANDOVER COMPLETE" => Ok(Rr::HandoverComplete(cause_alone(fields)?)),
-        "HANDOVER FAILURE" => Ok(Rr::HandoverFailure(cause_alone(fields)?)),
-        "CHANNEL RELEASE" => Ok(Rr::ChannelRelease(cause_alone(fields)?)),
-        "PHYSICAL INFORMATION" => match physical_information(fields) {
+        }
+    } else if name == HANDOVER_COMPLETE.name {
+        Ok(Rr::HandoverComplete(cause_alone(fields, HANDOVER_COMPLETE)?))
+    } else if name == HANDOVER_FAILURE.name {
+        Ok(Rr::HandoverFailure(cause_alone(fields, HANDOVER_FAILURE)?))
+    } else if name == CHANNEL_RELEASE.name {
+        Ok(Rr::ChannelRelease(cause_alone(fields, CHANNEL_RELEASE)?))
+    } else if name == PHYSICAL_INFORMATION.name {
+        match physical_information(fields) {
             Ok(message) => Ok(message),
             Err(fault) => Err(MessageFault::from(fault)),
-        },
-        "MEASUREMENT REPORT" => measurement_report(alloc, fields),
-        name => Err(MessageFault::Name(name)),
+        }
+    } else if name == MEASUREMENT_REPORT.name {
+        measurement_report(alloc, fields)
+    } else {
+        Err(MessageFault::Name(name))
     }
 }
 

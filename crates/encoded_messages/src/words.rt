@@ -1,7 +1,10 @@
 //! Words, keys and values.
-ghost use Rattle.std.specs.Prelude.{◌≡◌, ◌<◌, ◌∷◌, [], MatchOption, IfSome, length, option_map};
+ghost use Rattle.std.specs.Prelude.{◌≡◌, ◌<◌, ◌∷◌, [], MatchOption, IfSome, length, option_map, bytes_eq};
 ghost use Rattle.std.specs.List.{list_any};
+ghost use Rattle.encoded_messages.specs.Forms.{keys_of};
 ghost use Rattle.encoded_messages.specs.Words as said;
+
+use crate::form::FieldForm;
 
 /// The first word of a text, and what stands behind its blank; `None` where the text is one word.
 pub(crate) fn first_word(text: &str) -> Option<(&str, &str)>
@@ -35,32 +38,30 @@ pub(crate) fn key_and_value(word: &str) -> Option<(&str, &str)>
     word.split_once('=')
 }
 
-/// Whether a text has a word.
-fn has_word(text: &str, word: &str) -> bool
-    ensures { result ≡ list_any (said.is_same word.now) (said.words_of text.now) }
+/// Whether one of these fields has this key.
+fn has_key(forms: &[FieldForm<'_>], key: &str) -> bool
+    ensures { result ≡ list_any (λ form. bytes_eq form.0.now key.now) forms.now }
 {
-    match first_word(text) {
-        Some((first, rest)) => first == word || has_word(rest, word),
-        None => text == word,
-    }
+    forms.iter().any(|form| form.0 == key)
 }
 
-/// Whether a word is a field with one of these keys, which stand with one blank between any two.
-fn is_known(keys: &str, word: &str) -> bool
-    ensures { result ≡ said.is_known keys.now word.now }
+/// Whether a word is one of these fields.
+#[tactic(auto, using(crate::proofs::WordLemmas::keys_any))]
+fn is_known(forms: &[FieldForm<'_>], word: &str) -> bool
+    ensures { result ≡ said.is_known (keys_of forms.now) word.now }
 {
     match key_and_value(word) {
-        Some((key, _)) => !key.is_empty() && has_word(keys, key),
+        Some((key, _)) => has_key(forms, key),
         None => false,
     }
 }
 
-/// The first word that is no field with one of these keys.
-pub(crate) fn first_unknown<'a>(keys: &str, text: &'a str) -> Option<&'a str>
-    ensures { option_map (λ word. word.now) result ≡ said.first_unknown keys.now
+/// The first word that is none of these fields.
+pub(crate) fn first_unknown<'a>(forms: &[FieldForm<'_>], text: &'a str) -> Option<&'a str>
+    ensures { option_map (λ word. word.now) result ≡ said.first_unknown (keys_of forms.now)
         (said.words_of text.now) }
 {
-    text.split(' ').find(|word| !is_known(keys, word))
+    text.split(' ').find(|word| !is_known(forms, word))
 }
 
 /// The value of a word that is a field with this key.

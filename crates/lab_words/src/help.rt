@@ -1,5 +1,8 @@
 //! What stands behind the help of each command: its script lines or its messages, its statuses, and an example. No line has
 //! over 100 columns.
+use encoded_messages::{A_FORMS, ABIS_FORMS, FieldForm, MessageForm, RR_FORMS};
+use std::alloc::{AllocError, Global};
+use std::fmt;
 
 /// A help with the lines of a script between its front and its end.
 macro_rules! with_script_lines {
@@ -32,48 +35,59 @@ to 7, with /0 or /1 behind it for half rate):
     };
 }
 
-/// A help with the messages and their fields between its front and its end.
-macro_rules! with_messages {
-    ($front:literal, $end:literal) => {
-        concat!(
-            $front,
-            "\
-Messages of rr                   Fields
-  HANDOVER COMMAND               arfcn ncc bcc tn tsc carrier reference atc power
-  HANDOVER COMPLETE              cause
-  HANDOVER FAILURE               cause
-  CHANNEL RELEASE                cause
-  PHYSICAL INFORMATION           ta
-  MEASUREMENT REPORT             ba dtx full ba3g valid sub si23 qfull qsub count n
+/// What stands in a help where the lists of messages go.
+const MESSAGES: &str = "{messages}";
 
-Messages of a                    Fields
-  HANDOVER REQUIRED              cause response cells
-  HANDOVER REQUIRED REJECT       cause
-  HANDOVER REQUEST               channel encryption classmark serving target
-  HANDOVER REQUEST ACKNOWLEDGE   layer3
-  HANDOVER COMMAND               layer3
-  HANDOVER DETECT                (none)
-  HANDOVER COMPLETE              rr
-  HANDOVER FAILURE               cause rr
-  HANDOVER PERFORMED             cause cell
-  CLEAR REQUEST                  cause
-  CLEAR COMMAND                  cause
-  CLEAR COMPLETE                 (none)
+/// A help with the lists of messages, where it has a place for them.
+pub(crate) fn with_messages(alloc: Global, help: &str) -> Result<String, AllocError> {
+    match help.split_once(MESSAGES) {
+        Some((front, end)) => format!(in alloc; "{front}{MessageLists}{end}"),
+        None => String::from_str(alloc, help),
+    }
+}
 
-Messages of abis                 Fields
-  CHANNEL ACTIVATION             tn activation mode reference
-  CHANNEL ACTIVATION ACK         tn frame
-  CHANNEL ACTIVATION NACK        tn cause
-  RF CHANNEL RELEASE             tn
-  RF CHANNEL RELEASE ACK         tn
-  CONNECTION FAILURE INDICATION  tn cause
-  DATA REQUEST                   tn link layer3
-  DATA INDICATION                tn link layer3
-  HANDOVER DETECTION             tn delay
-  MEASUREMENT RESULT             tn number uplink power layer3",
-            $end
-        )
-    };
+/// The messages of each link, with their fields.
+#[derive(Clone, Copy)]
+struct MessageLists;
+
+impl fmt::Display for MessageLists {
+    fn fmt<W: fmt::Write>(&self, f: &mut fmt::Formatter<W>) -> fmt::Result {
+        write!(f, "{}\n\n", MessageList("rr", RR_FORMS))?;
+        write!(f, "{}\n\n", MessageList("a", A_FORMS))?;
+        write!(f, "{}", MessageList("abis", ABIS_FORMS))
+    }
+}
+
+/// The messages of the link of this name, with their fields: a line each, behind a line that says so.
+#[derive(Clone, Copy)]
+struct MessageList(&'static str, &'static [MessageForm<'static>]);
+
+impl fmt::Display for MessageList {
+    fn fmt<W: fmt::Write>(&self, f: &mut fmt::Formatter<W>) -> fmt::Result {
+        write!(f, "Messages of {:<21}Fields", self.0)?;
+        for form in self.1 {
+            write!(f, "\n  {:<31}{}", form.name, KeysText(form.fields))?;
+        }
+        Ok(())
+    }
+}
+
+/// The keys of a message's fields, with a blank between any two; `(none)` where it has no fields.
+#[derive(Clone, Copy)]
+struct KeysText(&'static [FieldForm<'static>]);
+
+impl fmt::Display for KeysText {
+    fn fmt<W: fmt::Write>(&self, f: &mut fmt::Formatter<W>) -> fmt::Result {
+        if self.0.is_empty() {
+            return write!(f, "(none)");
+        }
+        let mut separator = "";
+        for field in self.0 {
+            write!(f, "{separator}{}", field.0)?;
+            separator = " ";
+        }
+        Ok(())
+    }
 }
 
 /// What stands behind the help of `run`.
@@ -185,8 +199,7 @@ was refused.
 As in: bsc_lab audit site.toml run.trace";
 
 /// What stands behind the help of `decode`.
-pub(crate) const DECODE_HELP: &str = with_messages!(
-    "\
+pub(crate) const DECODE_HELP: &str = "\
 Links: rr is the radio path (TS 44.018), a the switching centre (TS 48.008), abis the base station
 (TS 48.058).
 
@@ -196,17 +209,14 @@ with its number. Without LINK each line begins with its own, as in: abis 08 2e 0
 A line that is refused is answered by fault and its numbers (bsc_lab explain fault says them in
 words), hex (it isn't hexadecimal), link (it begins with no link) or long (over 65,536 octets).
 
-",
-    "
+{messages}
 
 Statuses: 0 all are messages, 2 one was refused or a file can't be read, 3 memory was refused.
 
-As in: bsc_lab decode --from messages.txt --all"
-);
+As in: bsc_lab decode --from messages.txt --all";
 
 /// What stands behind the help of `encode`.
-pub(crate) const ENCODE_HELP: &str = with_messages!(
-    "\
+pub(crate) const ENCODE_HELP: &str = "\
 Links: rr is the radio path (TS 44.018), a the switching centre (TS 48.008), abis the base station
 (TS 48.058).
 
@@ -215,10 +225,8 @@ are in decimal, yes is 1 and no 0, octets are in hexadecimal, and - is what is a
 in 23/102, cells as in 23/102,23/103, and n, a neighbour's level, position and code, as in 40/2/21.
 A timeslot tn is as in 3 for a full-rate channel, and as in 3/0 or 3/1 for a half-rate one.
 
-",
-    "
+{messages}
 
 Statuses: 0 the octets are printed, 2 the message is refused, 3 memory was refused.
 
-As in: bsc_lab encode a \"CLEAR COMMAND cause=9\""
-);
+As in: bsc_lab encode a \"CLEAR COMMAND cause=9\"";

@@ -4,6 +4,7 @@ ghost use Rattle.std.specs.Prelude.{◌≡◌};
 use crate::explain_words::{explain_command, hexadecimal_question, question_of};
 use crate::help::{
     AUDIT_HELP, CHECK_HELP, DECODE_HELP, ENCODE_HELP, LIVE_HELP, REWIND_HELP, RUN_HELP,
+    with_messages,
 };
 use crate::refused_words::refused_line;
 use crate::script_words::{is_everywhere, record_command, script_paths, site_paths, test_command};
@@ -436,9 +437,9 @@ fn any_job_of<'a>(alloc: Global, matches: &ArgMatches<'a>) -> Result<Option<Job<
 /// What words that weren't matched come to.
 fn unmatched<'a>(alloc: Global, words: &[&str], error: Error) -> Result<Job<'a>, WordsFault> {
     match error.kind() {
-        ErrorKind::DisplayHelp | ErrorKind::DisplayVersion => Ok(Job::Show(error.to_string(
-            alloc,
-        )?)),
+        ErrorKind::DisplayHelp | ErrorKind::DisplayVersion => {
+            Ok(Job::Show(with_messages(alloc, &error.to_string(alloc)?)?))
+        }
         ErrorKind::OutOfMemory => Err(WordsFault::NoMemory),
         _ => Err(WordsFault::Refused(refused_line(alloc, words)?)),
     }

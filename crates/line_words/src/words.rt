@@ -1,5 +1,5 @@
 //! The words of a line.
-use crate::causes::{Cause, a_cause, a_layer3, abis_cause, passed_cause, rr_cause};
+use crate::causes::{Cause, a_cause, abis_cause, passed_cause, rr_cause};
 use crate::content::Content;
 use bssmap_messages::Bssmap;
 use explanations::{Question, answer_to};
@@ -12,7 +12,7 @@ use std::alloc::Allocator;
 use std::io::{self, Write};
 use trace_text::abis::{AbisText, layer3_of};
 use trace_text::bad::{NumberedFault, numbered};
-use trace_text::bssmap::BssmapText;
+use trace_text::bssmap::{self, BssmapText};
 use trace_text::rr::RrText;
 use trace_text::trace::{Step, TraceLine, refusal_number};
 
@@ -62,7 +62,7 @@ fn print_a<A: Allocator + Copy, W: Write>(out: &mut W, message: &Bssmap<A>) -> i
     write!(out, "; {}", BssmapText(message))?;
     print_cause(out, a_cause(message))?;
     print_cause(out, passed_cause(message))?;
-    print_layer3(out, a_layer3(message))
+    print_layer3(out, bssmap::layer3_of(message))
 }
 
 /// A message in words, where octets are one.
