@@ -151,8 +151,9 @@ fn closed<W: Write, E: Write>(
     }
 }
 
-/// Does what the words ask for, where no terminal shows the output, and one is told how far the command is.
-fn perform_elsewhere<
+/// Does what the words ask for. A terminal that watches is told how far the command is: where it shows the output too, line
+/// by line, this stands below the output (`is_shown`).
+fn perform_watched<
     R: Files + AllocGlobal,
     I: Read + Drop,
     W: Write + Drop,
@@ -163,60 +164,29 @@ fn perform_elsewhere<
     words: &[&str],
     input: I,
     mut out: Keeping<W>,
+    is_shown: bool,
     watch: Option<Watch<T>>,
     errors: &mut E,
 ) -> Result<Status, LabFault> {
-    match watch {
-        Some(
-            Watch {
-                terminal,
-                counted,
-                step,
-            },
-        ) => {
-            let mut progress = Progress::new(out, terminal, counted, step);
-            let ended = perform(rt, words, input, &mut progress, errors);
-            closed(ended, &mut progress.finish(), errors)
-        }
-        None => {
-            let ended = perform(rt, words, input, &mut out, errors);
-            closed(ended, &mut out, errors)
-        }
-    }
-}
-
-/// Does what the words ask for, where a terminal shows the output line by line, and the same one is told below it how far
-/// the command is.
-fn perform_on_terminal<
-    R: Files + AllocGlobal,
-    I: Read + Drop,
-    W: Write + Drop,
-    T: Write + Drop,
-    E: Write,
->(
-    rt: &R,
-    words: &[&str],
-    input: I,
-    mut out: Keeping<W>,
-    watch: Option<Watch<T>>,
-    errors: &mut E,
-) -> Result<Status, LabFault> {
-    match watch {
-        Some(
-            Watch {
-                terminal,
-                counted,
-                step: _,
-            },
-        ) => {
-            let mut erasing = Erasing::new(out, terminal, counted);
-            let ended = perform(rt, words, input, &mut erasing, errors);
-            closed(ended, &mut erasing.finish(), errors)
-        }
-        None => {
-            let ended = perform(rt, words, input, &mut out, errors);
-            closed(ended, &mut out, errors)
-        }
+    let Some(
+        Watch {
+            terminal,
+            counted,
+            step,
+        },
+    ) = watch
+    else {
+        let ended = perform(rt, words, input, &mut out, errors);
+        return closed(ended, &mut out, errors);
+    };
+    if is_shown {
+        let mut erasing = Erasing::new(out, terminal, counted);
+        let ended = perform(rt, words, input, &mut erasing, errors);
+        closed(ended, &mut erasing.finish(), errors)
+    } else {
+        let mut progress = Progress::new(out, terminal, counted, step);
+        let ended = perform(rt, words, input, &mut progress, errors);
+        closed(ended, &mut progress.finish(), errors)
     }
 }
 
@@ -276,10 +246,18 @@ fn start<
     // a buffer lacks nothing but memory
     if terminals.output {
         let lines = LineWriter::new(rt.alloc(), out).map_err(|_| LabFault::NoMemory)?;
-        perform_on_terminal(rt, &words, input, Keeping::new(lines), watch, errors)
+        perform_watched(rt, &words, input, Keeping::new(lines), true, watch, errors)
     } else {
         let buffer = BufWriter::new(rt.alloc(), out).map_err(|_| LabFault::NoMemory)?;
-        perform_elsewhere(rt, &words, input, Keeping::new(buffer), watch, errors)
+        perform_watched(
+            rt,
+            &words,
+            input,
+            Keeping::new(buffer),
+            false,
+            watch,
+            errors,
+        )
     }
 }
 

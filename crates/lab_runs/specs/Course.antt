@@ -38,6 +38,10 @@ positions_of all = all.first ∷ option_list all.peer
 abbrev pub has_peer : {A : Type 0} → Course A → Bool
 has_peer c = is_some c.controllers.peer
 
+-- simulators are attached
+abbrev pub has_simulators : {A : Type 0} → Course A → Bool
+has_simulators c = is_some c.simulators
+
 -- turns were added by which the controllers came where they are, and these are the inputs that a script gave them
 pub record Went {A : Type 0} (inputs : List (Side × Inbound A)) (c c' : Course A) : Type 0 where
   pub turns : List (Turn A)

@@ -1,5 +1,5 @@
 -- Inputs, and what came of each. Ours, of no standard.
-use Rattle.std.specs.Prelude.{◌≡◌, ◌++◌, List, [], ◌∷◌, Option, Some, None, drop, length, slice_get, slice_set}
+use Rattle.std.specs.Prelude.{◌≡◌, ◌++◌, Bool, true, false, List, [], ◌∷◌, Option, Some, None, drop, length, slice_get, slice_set}
 use Rattle.std.specs.List.{filter_map}
 use Rattle.cell_table.specs.Site.{SiteView}
 use Rattle.radio_book.specs.Run.{Leads}
@@ -107,3 +107,10 @@ input_in side (HangUp call) = []
 abbrev pub inputs_in : {A : Type 0} → List (Item A) → List (Side × Inbound A)
 inputs_in [] = []
 inputs_in (item ∷ items) = input_in item.side item.given ++ inputs_in items
+
+-- what is given attaches the simulators
+abbrev pub is_attach : {A : Type 0} → Given A → Bool
+is_attach (Input input) = false
+is_attach Attach = true
+is_attach (Set setting) = false
+is_attach (HangUp call) = false

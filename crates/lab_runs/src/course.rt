@@ -1,9 +1,9 @@
 //! The course of a script: one controller or two on one thread, and the simulators around them.
-ghost use Rattle.std.specs.Prelude.{◌≡◌, [], ◌∷◌, true, is_some, option_map, IfOk, OnOk};
+ghost use Rattle.std.specs.Prelude.{◌≡◌, [], ◌∷◌, ◌||◌, true, false, is_some, option_map, IfOk, OnOk};
 ghost use Rattle.lab_script.specs.Sides.{is_there};
 ghost use Rattle.lab_script.specs.Script.{AreThere, is_item_there};
-ghost use Rattle.lab_runs.specs.Turns.{listed, inputs_in};
-ghost use Rattle.lab_runs.specs.Course.{Went, AreOpenings, positions_of, has_peer, option_list};
+ghost use Rattle.lab_runs.specs.Turns.{listed, inputs_in, is_attach};
+ghost use Rattle.lab_runs.specs.Course.{Went, AreOpenings, positions_of, has_peer, has_simulators, option_list};
 
 use crate::controllers::Controllers;
 use crate::listener::Listener;
@@ -68,6 +68,7 @@ impl<A: Allocator + Copy> Course<A> {
             (positions_of course.controllers)) }
         ensures peer { IfOk result (λ course. has_peer course ≡ is_some peer) }
         ensures turns { IfOk result (λ course. course.turns.items ≡ []) }
+        ensures sim { IfOk result (λ course. has_simulators course ≡ false) }
     {
         Ok(Course {
             controllers: Controllers::new(alloc, &site, &peer)?,
@@ -78,11 +79,19 @@ impl<A: Allocator + Copy> Course<A> {
         })
     }
 
+    /// Whether simulators are attached.
+    pub fn has_simulators(&self) -> bool
+        ensures attached { result ≡ has_simulators self.now }
+    {
+        self.simulators.is_some()
+    }
+
     /// From here on simulators answer, unless they do already.
     fn attach(&mut self) -> Result<(), AllocError>
-        ensures { OnOk result (Went [] self.old self.new) }
+        ensures went { OnOk result (Went [] self.old self.new) }
+        ensures sim { OnOk result (has_simulators self.new ≡ true) }
     {
-        if self.simulators.is_some() {
+        if self.has_simulators() {
             return Ok(());
         }
         self.simulators = Some(Simulators::new(self.alloc, self.sites.as_slice())?);
@@ -91,7 +100,8 @@ impl<A: Allocator + Copy> Course<A> {
 
     /// Asks something of a simulated station or of a mobile. What is sent then waits.
     fn set(&mut self, setting: Setting, waiting: &mut Waiting<A>) -> Result<(), AllocError>
-        ensures { OnOk result (Went [] self.old self.new) }
+        ensures went { OnOk result (Went [] self.old self.new) }
+        ensures sim { OnOk result (has_simulators self.new ≡ has_simulators self.old) }
     {
         match &mut self.simulators {
             Some(simulators) => simulators.set(setting, waiting),
@@ -118,7 +128,8 @@ impl<A: Allocator + Copy> Course<A> {
         listener: &mut L,
     ) -> Result<(), LabFault>
         requires there { is_there (has_peer self.old) side ≡ true }
-        ensures { OnOk result (Went (listed source side input) self.old self.new) }
+        ensures went { OnOk result (Went (listed source side input) self.old self.new) }
+        ensures sim { OnOk result (has_simulators self.new ≡ has_simulators self.old) }
     {
         self.turns.reserve(1)?;
         let turn = match self.controllers.take_turn(self.alloc, side, source, input) {
@@ -145,6 +156,7 @@ impl<A: Allocator + Copy> Course<A> {
         listener: &mut L,
     ) -> Result<(), LabFault>
         ensures went { OnOk result (Went [] self.old self.new) }
+        ensures sim { OnOk result (has_simulators self.new ≡ has_simulators self.old) }
     {
         if self.controllers.has(arrival.side) {
             self.handle(
@@ -165,7 +177,8 @@ impl<A: Allocator + Copy> Course<A> {
         waiting: &mut Waiting<A>,
         listener: &mut L,
     ) -> Result<(), LabFault>
-        ensures { OnOk result (Went [] self.old self.new) }
+        ensures went { OnOk result (Went [] self.old self.new) }
+        ensures sim { OnOk result (has_simulators self.new ≡ has_simulators self.old) }
     {
         for _ in 0..MOST_ANSWERS {
             let Some(arrival) = waiting.pop_front() else {
@@ -185,6 +198,8 @@ impl<A: Allocator + Copy> Course<A> {
     ) -> Result<(), LabFault>
         requires there { is_item_there (has_peer self.old) item ≡ true }
         ensures went { OnOk result (Went (inputs_in (item ∷ [])) self.old self.new) }
+        ensures sim { OnOk result (has_simulators self.new ≡
+            is_attach item.given || has_simulators self.old) }
     {
         let Item { side, given } = item;
         match given {
@@ -203,6 +218,8 @@ impl<A: Allocator + Copy> Course<A> {
     ) -> Result<(), LabFault>
         requires there { is_item_there (has_peer self.old) item ≡ true }
         ensures went { OnOk result (Went (inputs_in (item ∷ [])) self.old self.new) }
+        ensures sim { OnOk result (has_simulators self.new ≡
+            is_attach item.given || has_simulators self.old) }
     {
         let mut waiting = VecDeque::new(self.alloc);
         self.begin(item, &mut waiting, listener)?;
@@ -271,7 +288,9 @@ fn tell<A: Allocator + Copy, L: Listener<A>>(
     turn: &Turn<A>,
     waiting: &mut Waiting<A>,
     listener: &mut L,
-) -> Result<(), LabFault> {
+) -> Result<(), LabFault>
+    ensures { OnOk result (is_some simulators.new ≡ is_some simulators.old) }
+{
     controllers.tell(turn, listener)?;
     Ok(pass_answer(simulators, turn, waiting)?)
 }
@@ -293,7 +312,9 @@ fn pass_answer<A: Allocator + Copy>(
     simulators: &mut Option<Simulators<A>>,
     turn: &Turn<A>,
     waiting: &mut Waiting<A>,
-) -> Result<(), AllocError> {
+) -> Result<(), AllocError>
+    ensures { OnOk result (is_some simulators.new ≡ is_some simulators.old) }
+{
     let Some(simulators) = simulators else {
         return Ok(());
     };

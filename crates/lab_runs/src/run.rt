@@ -1,10 +1,10 @@
 //! One controller or two that are driven by a script, on one thread.
-ghost use Rattle.std.specs.Prelude.{◌≡◌, ◌≢◌, ◌⊎◌, ◌∷◌, [], Ok, Err, None, Some, IsSome, IsSomeAnd, IfOk, IfErr, IfSome, is_some, option_map, map};
+ghost use Rattle.std.specs.Prelude.{◌≡◌, ◌≢◌, ◌⊎◌, ◌∷◌, [], Ok, Err, None, Some, IsSome, IsSomeAnd, IfOk, IfErr, IfSome, false, is_some, option_map, map};
 ghost use Rattle.cell_table.specs.SiteFile.{described_site, IsBlankFile};
 ghost use Rattle.cell_table.specs.declared.fault.Key.TheVariants.{Handover};
 ghost use Rattle.lab_script.specs.Script.{first_unreadable, items_of, AreThere};
 ghost use Rattle.lab_runs.specs.Turns.{inputs_in};
-ghost use Rattle.lab_runs.specs.Course.{Played, IsPlayed, IsRunOf, AreOpenings, positions_of, has_peer, option_list};
+ghost use Rattle.lab_runs.specs.Course.{Played, IsPlayed, IsRunOf, AreOpenings, positions_of, has_peer, has_simulators, option_list};
 ghost use Rattle.lab_runs.specs.Sites.{views_of, texts_of};
 ghost use Rattle.lab_runs.specs.Statuses.{status_of, status_after, exit_status_of};
 
@@ -127,6 +127,7 @@ pub fn fresh_course<A: Allocator + Copy>(alloc: A, sites: Sites<A>) -> Result<Co
         (positions_of course.controllers)) }
     ensures peer { IfOk result (λ course. has_peer course ≡ is_some sites.peer) }
     ensures turns { IfOk result (λ course. course.turns.items ≡ []) }
+    ensures sim { IfOk result (λ course. has_simulators course ≡ false) }
 {
     let first = shared(alloc, sites.first)?;
     let peer = shared_peer(alloc, sites.peer)?;

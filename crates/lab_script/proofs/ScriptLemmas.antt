@@ -5,21 +5,10 @@ use Rattle.std.specs.Str.Lines.{strip_carriage_return}
 use Rattle.std.proofs.lemmas.List.{map-append, get_or-map, length-map}
 use Rattle.std.proofs.lemmas.List.Elements.{filter_map-append}
 use Rattle.std.proofs.Math.Seq.{take-suc, take-length, take-append_seam, get_or-append_seam}
-use Rattle.std.specs.Option.{option_or}
-use Rattle.ho_procedure.specs.declared.exchange.Inbound.{Inbound}
 use Rattle.lab_script.specs.declared.script.Given.{Given}
-use Rattle.lab_script.specs.declared.script.Given.TheVariants.{Input}
 use Rattle.lab_script.specs.declared.script.Item.{Item}
-use Rattle.lab_script.specs.Sides.{side_of, text_of}
-use Rattle.lab_script.specs.Script.{is_sim, is_unreadable, attaches_sim, first_unreadable, lines_of, input_of, simulated, given_by, item_of, items_of}
-
--- an input is given
-pub some_given : (A : Type 0) (line : List ℕ) → is_some (input_of {A = A} (text_of line)) ≡ true → is_some (given_by {A = A} line) ≡ true
-some_given A line s = by_input (input_of {A = A} (text_of line)) s
-  where
-    by_input : (i : Option (Inbound A)) → is_some i ≡ true → is_some (option_or (option_map Input i) (simulated {A = A} line)) ≡ true
-    by_input (Some x) s = refl
-    by_input None s = absurd (search rules)
+use Rattle.lab_script.specs.Sides.{side_of}
+use Rattle.lab_script.specs.Script.{is_sim, is_unreadable, attaches_sim, first_unreadable, lines_of, given_by, item_of, items_of}
 
 -- what a line says makes an item
 pub some_item : (A : Type 0) (line : List ℕ) → is_some (given_by {A = A} line) ≡ true → is_some (item_of {A = A} line) ≡ true
@@ -28,14 +17,6 @@ some_item A line s = by_given (given_by {A = A} line) s
     by_given : (g : Option (Given A)) → is_some g ≡ true → is_some (option_map {U = Item A} (λ given. record { side = side_of line; given = given }) g) ≡ true
     by_given (Some x) s = refl
     by_given None s = absurd (search rules)
-
--- an input or what the simulators are told is given
-pub gives_either : (line : List ℕ) → is_some (given_by {A = Unit {0}} line) ≡ is_some (input_of {A = Unit {0}} (text_of line)) || is_some (simulated {A = Unit {0}} line)
-gives_either line = by_input (input_of {A = Unit {0}} (text_of line))
-  where
-    by_input : (i : Option (Inbound (Unit {0}))) → is_some (option_or (option_map Input i) (simulated {A = Unit {0}} line)) ≡ is_some i || is_some (simulated {A = Unit {0}} line)
-    by_input (Some x) = refl
-    by_input None = refl
 
 pub strip_carriage_return-append : (front : List ℕ) → strip_carriage_return (front ++ (13 ∷ [])) ≡ front
 strip_carriage_return-append front =

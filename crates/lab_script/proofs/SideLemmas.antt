@@ -76,6 +76,13 @@ line_there : (has_peer : Bool) (line : List ℕ) → is_line has_peer line ≡ t
 line_there true line h = there_any (is_for_peer line)
 line_there false line h = there_first (is_for_peer line) (not_for_peer line h)
 
+is_a_line : (is_line rest : Bool) → (not is_line || rest) ≡ false → is_line ≡ true
+is_a_line true rest e = refl
+is_a_line false rest e = absurd (search (rules, e))
+
+pub readable_there : (has_peer has_sim : Bool) (line : List ℕ) → is_unreadable has_peer has_sim line ≡ false → is_there has_peer (side_of line) ≡ true
+readable_there has_peer has_sim line e = line_there has_peer line (is_a_line (is_line has_peer line) (needs_sim line && not has_sim) e)
+
 -- one item more
 item_there : {A : Type 0} (has_peer : Bool) (side : Side) (o : Option (Given A)) (items : List (Item A))
     → is_there has_peer side ≡ true → AreThere has_peer items

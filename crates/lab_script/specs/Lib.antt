@@ -1,6 +1,6 @@
 pub mod Words
 pub mod Sides
-pub mod Operators
-pub mod Received
-pub mod Stations
+pub mod Forms
+pub mod Values
+pub mod Said
 pub mod Script

@@ -1,35 +1,13 @@
 -- What a script says, line by line.
-use Rattle.std.specs.Prelude.{◌≡◌, ℕ, ◌==◌, ◌||◌, ◌&&◌, Bool, true, nat_eq, not, if◌then◌else◌, List, map, take, codes, Option, Some, is_some, option_map, bytes_eq}
+use Rattle.std.specs.Prelude.{◌≡◌, ℕ, ◌==◌, ◌||◌, ◌&&◌, Bool, true, false, nat_eq, not, if◌then◌else◌, List, map, take, codes, Option, Some, is_some, option_map, option_and_then, unwrap_or, bytes_eq}
 use Rattle.std.specs.List.{slice_split, filter_map, list_all, list_any, starts_with, position_from, enumerate_from}
-use Rattle.std.specs.Option.{option_or}
 use Rattle.std.specs.Str.Lines.{strip_carriage_return}
-use Rattle.ho_procedure.specs.declared.exchange.Inbound.{Inbound}
-use Rattle.ho_procedure.specs.declared.exchange.Inbound.TheVariants.{Abis, A, Expiry, Operator}
-use Rattle.lab_script.specs.declared.side.Side.{Side}
 use Rattle.lab_script.specs.declared.script.Given.{Given}
-use Rattle.lab_script.specs.declared.script.Given.TheVariants.{Input, Attach, Set, HangUp}
+use Rattle.lab_script.specs.declared.script.Given.TheVariants.{Attach}
 use Rattle.lab_script.specs.declared.script.Item.{Item}
-use Rattle.lab_script.specs.Sides.{is_for_peer, side_of, text_of, is_there}
-use Rattle.lab_script.specs.Words.{words_of}
-use Rattle.lab_script.specs.Operators.{operator_line, expiry_line}
-use Rattle.lab_script.specs.Received.{abis_line, a_line}
-use Rattle.lab_script.specs.Stations.{setting_line, hangup_line}
-
--- the input of an operator, or of a timer that ran out
-abbrev pub asked : {A : Type 0} → List (List ℕ) → Option (Inbound A)
-asked words = option_or (option_map Operator (operator_line words)) (option_map (λ e. Expiry e.0 e.1) (expiry_line words))
-
--- the message that comes to the controller
-abbrev pub received : {A : Type 0} → List (List ℕ) → Option (Inbound A)
-received words = option_or (option_map (λ m. Abis m.0 m.1 m.2) (abis_line words)) (option_map (λ m. A m.0 m.1) (a_line words))
-
--- the input that a line's text gives
-abbrev pub input_of : {A : Type 0} → List ℕ → Option (Inbound A)
-input_of text = option_or (asked (words_of text)) (received (words_of text))
-
--- what a line's text asks of the simulators of a controller
-abbrev pub simulated_on : {A : Type 0} → Side → List ℕ → Option (Given A)
-simulated_on side text = option_or (option_map Set (setting_line side (words_of text))) (option_map HangUp (hangup_line (words_of text)))
+use Rattle.lab_script.specs.Sides.{is_for_peer, side_of, is_there}
+use Rattle.lab_script.specs.Said as said
+use Rattle.lab_script.specs.Said.{line_said, given}
 
 -- the line that attaches the simulators: it is for both controllers, and so has no mark
 abbrev pub is_sim : List ℕ → Bool
@@ -37,15 +15,11 @@ is_sim line = bytes_eq line (codes "sim")
 
 -- a line that asks something of the simulators
 abbrev pub needs_sim : List ℕ → Bool
-needs_sim line = is_some (simulated_on {A = Unit} (side_of line) (text_of line))
-
--- what a line is for the simulators
-abbrev pub simulated : {A : Type 0} → List ℕ → Option (Given A)
-simulated line = if is_sim line then Some Attach else simulated_on (side_of line) (text_of line)
+needs_sim line = unwrap_or (option_map (λ r. said.needs_sim r.0) (line_said line)) false
 
 -- what a line says
 abbrev pub given_by : {A : Type 0} → List ℕ → Option (Given A)
-given_by line = option_or (option_map Input (input_of (text_of line))) (simulated line)
+given_by line = if is_sim line then Some Attach else option_and_then (λ r. given r.1 r.0) (line_said line)
 
 -- what a line gives
 abbrev pub item_of : {A : Type 0} → List ℕ → Option (Item A)

@@ -1,5 +1,5 @@
 -- The words of a line, and what each says. A text is the list of its bytes.
-use Rattle.std.specs.Prelude.{ℕ, ◌==◌, ◌&&◌, Bool, nat_lt, if◌then◌else◌, List, length, codes, Option, Some, None, [], ◌∷◌, bytes_eq}
+use Rattle.std.specs.Prelude.{ℕ, ◌==◌, ◌&&◌, Bool, nat_lt, if◌then◌else◌, List, length, codes, Option, Some, None, option_and_then, [], bytes_eq}
 use Rattle.std.specs.List.{slice_split, list_all, position_or_len, before_first, after_first}
 use Rattle.std.specs.Char.{is_ascii_digit}
 use Rattle.std.specs.Result.{result_ok}
@@ -7,11 +7,21 @@ use Rattle.std.specs.Str.Parse.{digits_value}
 use Rattle.hex.specs.Hex.{decode_of}
 use Rattle.timeslots.specs.declared.Sub.{Sub}
 use Rattle.timeslots.specs.declared.Sub.TheVariants.{Full, Half0, Half1}
-use Rattle.channel_fsm.specs.declared.ChanId.{ChanId}
+use Rattle.timeslots.specs.declared.Rate.{Rate}
+use Rattle.timeslots.specs.declared.Rate.TheVariants as rate
+use Rattle.attempt_journal.specs.declared.Timer.{Timer}
+use Rattle.attempt_journal.specs.declared.Timer.TheVariants.{T3103, T7, T8}
+use Rattle.bts_model.specs.declared.setting.Habit.{Habit}
+use Rattle.bts_model.specs.declared.setting.Habit.TheVariants.{Arrive, Return, Vanish}
 
 -- the words of a text: one blank stands between any two
 abbrev pub words_of : List ℕ → List (List ℕ)
 words_of text = slice_split (λ b. b == 32) text
+
+-- the words of what stands behind a blank, where there is one
+abbrev pub words_left : Option (List ℕ) → List (List ℕ)
+words_left None = []
+words_left (Some text) = words_of text
 
 -- one decimal digit or more, and nothing else
 abbrev pub is_number : List ℕ → Bool
@@ -48,11 +58,21 @@ timeslot_in (Some p) text = slot_at (number_below 8 p.0) (half_of p.1)
 unfoldable pub timeslot_of : List ℕ → Option (ℕ × Sub)
 timeslot_of text = timeslot_in (around_slash text) text
 
-abbrev pub channel_at : Option ℕ → Option ℕ → Option (ℕ × Sub) → Option ChanId
-channel_at (Some cell) (Some trx) (Some slot) = Some (record { cell = cell; trx = trx; tn = slot.0; sub = slot.1 })
-channel_at cell trx slot = None
+-- the timer of a name
+abbrev pub timer_of : List ℕ → Option Timer
+timer_of text = if bytes_eq text (codes "T3103") then Some T3103 else if bytes_eq text (codes "T7") then Some T7 else if bytes_eq text (codes "T8") then Some T8 else None
 
--- CELL TRX TN
-abbrev pub channel_of : List (List ℕ) → Option ChanId
-channel_of (cell ∷ trx ∷ tn ∷ []) = channel_at (number_below 256 cell) (number_below 256 trx) (timeslot_of tn)
-channel_of words = None
+-- the rate of a name
+abbrev pub rate_of : List ℕ → Option Rate
+rate_of text = if bytes_eq text (codes "full") then Some rate.Full else if bytes_eq text (codes "half") then Some rate.Half else None
+
+-- the habit of a name
+abbrev pub habit_of : List ℕ → Option Habit
+habit_of text = if bytes_eq text (codes "arrive") then Some Arrive else if bytes_eq text (codes "return") then Some Return else if bytes_eq text (codes "vanish") then Some Vanish else None
+
+-- a number of octets, of which there is one at least
+abbrev pub unless_none : ℕ → Option ℕ
+unless_none n = if n == 0 then None else Some n
+
+abbrev pub count_of : List ℕ → Option ℕ
+count_of text = option_and_then unless_none (number_below 256 text)

@@ -2,9 +2,9 @@
 //! switching centre.
 #![tactic(auto)]
 
-mod operator;
-mod received;
+pub mod forms;
+mod said;
 pub mod script;
 mod side;
-mod stations;
+mod values;
 mod words;

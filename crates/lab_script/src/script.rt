@@ -3,19 +3,16 @@
 //!
 //! `docs/PROGRAM.md` lists the lines and the ranges of their numbers; [`Item`] is what they give.
 
-ghost use Rattle.std.specs.Prelude.{◌≡◌, ◌≢◌, ◌↔◌, ℕ, Some, None, Err, true, false, nat_lt, [], ◌∷◌, ◌++◌, IsErr, IfOk, OnOk, is_some, option_map, unwrap_or};
+ghost use Rattle.std.specs.Prelude.{◌≡◌, ◌≢◌, ◌↔◌, ℕ, Some, None, Err, true, false, nat_lt, [], ◌∷◌, ◌++◌, IsErr, IfOk, OnOk, is_some, ◌||◌, ◌&&◌, option_map, option_and_then, unwrap_or};
 ghost use Rattle.std.specs.List.{filter_map, position_from};
 ghost use Rattle.std.specs.Str.Lines.{strip_carriage_return};
-ghost use Rattle.lab_script.specs.Words.{words_of};
-ghost use Rattle.lab_script.specs.Sides.{text_of};
+ghost use Rattle.lab_script.specs.Said as said_by;
 ghost use Rattle.lab_script.specs.Script as said;
 
-use crate::operator::{expiry_line, operator_line};
-use crate::received::{a_line, abis_line};
+use crate::said::{Said, line_said};
 pub use crate::side::{Side, cut_side, is_for_peer};
-use crate::stations::{hangup_line, is_sim, setting_line};
+pub use crate::words::is_octets;
 use crate::words::octets;
-pub use crate::words::{is_octets, is_timeslot};
 use bts_model::Setting;
 use ho_procedure::exchange::Inbound;
 use std::alloc::{AllocError, Allocator, Global};
@@ -64,90 +61,59 @@ impl From<AllocError> for ScriptFault {
     }
 }
 
-/// The input of an operator's line, or of one of a timer.
-fn asked<A: Allocator>(line: &str) -> Option<Inbound<A>>
-    ensures { result ≡ said.asked (words_of line.now) }
+/// What a line says with these octets in hexadecimal.
+fn give<A: Allocator + Copy>(
+    alloc: A,
+    said: Said,
+    hex: &str,
+) -> Result<Option<Given<A>>, AllocError>
+    ensures value { IfOk result (λ given. given ≡ said_by.given hex.now said) }
+    ensures memory { IsErr result → is_some (said_by.given {A = A} hex.now said) ≡ true }
 {
-    if let Some(line) = operator_line(line) {
-        return Some(Inbound::Operator(line));
+    match said {
+        Said::Operator(line) => Ok(Some(Given::Input(Inbound::Operator(line)))),
+        Said::Expiry { call, timer } => Ok(Some(Given::Input(Inbound::Expiry { call, timer }))),
+        Said::Abis { cell, trx } => match octets(alloc, hex)? {
+            Some(bytes) => Ok(Some(Given::Input(Inbound::Abis { cell, trx, bytes }))),
+            None => Ok(None),
+        },
+        Said::A { call } => match octets(alloc, hex)? {
+            Some(bytes) => Ok(Some(Given::Input(Inbound::A { call, bytes }))),
+            None => Ok(None),
+        },
+        Said::Set(setting) => Ok(Some(Given::Set(setting))),
+        Said::HangUp(call) => Ok(Some(Given::HangUp(call))),
     }
-    let (call, timer) = expiry_line(line)?;
-    Some(Inbound::Expiry { call, timer })
 }
 
-/// The message of a line that gives one to the controller.
-fn received<A: Allocator + Copy>(alloc: A, line: &str) -> Result<Option<Inbound<A>>, AllocError>
-    ensures value { IfOk result (λ input. input ≡ said.received (words_of line.now)) }
-    ensures memory { IsErr result → is_some (said.received {A = A} (words_of line.now)) ≡ true }
+/// Whether a line attaches the simulators.
+fn is_sim(line: &str) -> bool
+    ensures { result ≡ said.is_sim line.now }
 {
-    if let Some((cell, trx, hex)) = abis_line(line) {
-        let bytes = octets(alloc, hex)?;
-        return Ok(Some(Inbound::Abis { cell, trx, bytes }));
+    line == "sim"
+}
+
+/// What a line says.
+fn given_by<A: Allocator + Copy>(alloc: A, line: &str) -> Result<Option<Given<A>>, AllocError>
+    ensures value { IfOk result (λ given. given ≡ said.given_by line.now) }
+    ensures memory { IsErr result → is_some (said.given_by {A = A} line.now) ≡ true }
+{
+    if is_sim(line) {
+        return Ok(Some(Given::Attach));
     }
-    match a_line(line) {
-        Some((call, hex)) => {
-            let bytes = octets(alloc, hex)?;
-            Ok(Some(Inbound::A { call, bytes }))
-        }
+    match line_said(line) {
+        Some((said, hex)) => give(alloc, said, hex),
         None => Ok(None),
     }
 }
 
-/// The input that a line's text gives.
-fn input<A: Allocator + Copy>(alloc: A, line: &str) -> Result<Option<Inbound<A>>, AllocError>
-    ensures value { IfOk result (λ input. input ≡ said.input_of line.now) }
-    ensures memory { IsErr result → is_some (said.input_of {A = A} line.now) ≡ true }
-{
-    match asked(line) {
-        Some(input) => Ok(Some(input)),
-        None => received(alloc, line),
-    }
-}
-
-/// What a line's text asks of the simulators of a controller.
-fn simulated_on<A: Allocator>(side: Side, text: &str) -> Option<Given<A>>
-    ensures { result ≡ said.simulated_on side text.now }
-{
-    if let Some(setting) = setting_line(side, text) {
-        return Some(Given::Set(setting));
-    }
-    Some(Given::HangUp(hangup_line(text)?))
-}
-
-/// What a line is for the simulators.
-fn simulated<A: Allocator>(line: &str) -> Option<Given<A>>
-    ensures { result ≡ said.simulated line.now }
-{
-    if is_sim(line) {
-        return Some(Given::Attach);
-    }
-    let (side, text) = cut_side(line);
-    simulated_on(side, text)
-}
-
-/// What a line says.
-fn given_by<A: Allocator + Copy>(
-    alloc: A,
-    line: &str,
-    text: &str,
-) -> Result<Option<Given<A>>, AllocError>
-    requires text { text.now ≡ text_of line.now }
-    ensures value { IfOk result (λ given. given ≡ said.given_by line.now) }
-    ensures memory { IsErr result → is_some (said.given_by {A = A} line.now) ≡ true }
-{
-    match input(alloc, text)? {
-        Some(input) => Ok(Some(Given::Input(input))),
-        None => Ok(simulated(line)),
-    }
-}
-
-/// What a line gives.
-fn read_item<A: Allocator + Copy>(alloc: A, line: &str) -> Result<Option<Item<A>>, AllocError>
-    ensures value { IfOk result (λ item. item ≡ said.item_of line.now) }
+/// What a line gives, which no carriage return ends.
+pub fn read_item<A: Allocator + Copy>(alloc: A, line: &str) -> Result<Option<Item<A>>, AllocError>
+    ensures item { IfOk result (λ item. item ≡ said.item_of line.now) }
     ensures memory { IsErr result → is_some (said.item_of {A = A} line.now) ≡ true }
 {
-    let (side, text) = cut_side(line);
-    match given_by(alloc, line, text)? {
+    let (side, _) = cut_side(line);
+    match given_by(alloc, line)? {
         Some(given) => Ok(Some(Item { side, given })),
         None => Ok(None),
     }
@@ -167,51 +133,24 @@ pub fn is_blank(line: &str) -> bool
     line.bytes().all(|byte| byte == b' ' || byte == b'\t')
 }
 
-/// Whether a line's text gives a controller something.
-fn is_input(text: &str) -> bool
-    ensures { result ≡ is_some (said.input_of {A = Unit} text.now) }
+/// Whether what a line says, with its octets in hexadecimal, can be given.
+fn is_given(said: Option<(Said, &str)>) -> bool
+    ensures { result ≡ is_some (option_and_then (λ r. said_by.given {A = Unit} r.1.now r.0) said.entry) }
 {
-    operator_line(text).is_some()
-        || expiry_line(text).is_some()
-        || abis_line(text).is_some()
-        || a_line(text).is_some()
+    match said {
+        Some((said, hex)) => said.is_given(hex),
+        None => false,
+    }
 }
 
-/// Whether a line's text asks something of the simulators of a controller.
-fn is_simulated_on(side: Side, text: &str) -> bool
-    ensures { result ≡ is_some (said.simulated_on {A = Unit} side text.now) }
+/// Whether what a line says asks something of the simulators.
+fn asks_sim(said: Option<(Said, &str)>) -> bool
+    ensures { result ≡ unwrap_or (option_map (λ r. said_by.needs_sim r.0) said.entry) false }
 {
-    setting_line(side, text).is_some() || hangup_line(text).is_some()
-}
-
-/// Whether a line asks something of the simulators.
-fn needs_sim(line: &str) -> bool
-    ensures { result ≡ said.needs_sim line.now }
-{
-    let (side, text) = cut_side(line);
-    is_simulated_on(side, text)
-}
-
-/// Whether a line is one for the simulators.
-fn is_simulated(line: &str) -> bool
-    ensures { result ≡ is_some (said.simulated {A = Unit} line.now) }
-{
-    is_sim(line) || needs_sim(line)
-}
-
-/// Whether what a line says to its controller is an input.
-fn gives_input(line: &str) -> bool
-    ensures { result ≡ is_some (said.input_of {A = Unit} (text_of line.now)) }
-{
-    let (_, text) = cut_side(line);
-    is_input(text)
-}
-
-/// Whether a line gives something.
-fn gives(line: &str) -> bool
-    ensures { result ≡ is_some (said.given_by {A = Unit} line.now) }
-{
-    gives_input(line) || is_simulated(line)
+    match said {
+        Some((said, _)) => said.needs_sim(),
+        None => false,
+    }
 }
 
 /// Whether a line is for a controller that is there.
@@ -222,10 +161,11 @@ fn is_addressed(has_peer: bool, line: &str) -> bool
 }
 
 /// Whether a line gives something to a controller that is there, or is passed over.
-fn is_line(has_peer: bool, line: &str) -> bool
-    ensures { result ≡ said.is_line has_peer line.now }
+fn is_line(has_peer: bool, line: &str, gives: bool) -> bool
+    ensures { result ≡ (said.is_comment line.now || said.is_blank line.now) ||
+        (said.is_addressed has_peer line.now && gives) }
 {
-    is_comment(line) || is_blank(line) || (is_addressed(has_peer, line) && gives(line))
+    is_comment(line) || is_blank(line) || (is_addressed(has_peer, line) && gives)
 }
 
 /// A line without the carriage return that may end it.
@@ -235,12 +175,20 @@ pub fn without_return(line: &str) -> &str
     line.strip_suffix('\r').unwrap_or(line)
 }
 
-/// Whether a line, which a carriage return may end, can't be read, where the simulators are attached or aren't.
-fn is_unreadable(has_peer: bool, has_sim: bool, line: &str) -> bool
-    ensures { result ≡ said.is_unreadable has_peer has_sim (strip_carriage_return line.now) }
+/// Whether a line can't be read, where the simulators are attached or aren't.
+fn is_refused(has_peer: bool, has_sim: bool, line: &str) -> bool
+    ensures { result ≡ said.is_unreadable has_peer has_sim line.now }
 {
-    let line = without_return(line);
-    !is_line(has_peer, line) || (needs_sim(line) && !has_sim)
+    let said = line_said(line);
+    let gives = is_sim(line) || is_given(said);
+    !is_line(has_peer, line, gives) || (asks_sim(said) && !has_sim)
+}
+
+/// Whether a line, which a carriage return may end, can't be read, where the simulators are attached or aren't.
+pub fn is_unreadable(has_peer: bool, has_sim: bool, line: &str) -> bool
+    ensures unreadable { result ≡ said.is_unreadable has_peer has_sim (strip_carriage_return line.now) }
+{
+    is_refused(has_peer, has_sim, without_return(line))
 }
 
 /// Where the first line that attaches the simulators stands, counted from 0.

@@ -1,20 +1,24 @@
 //! Words of lines: keywords, numbers, channels, octets.
-ghost use Rattle.std.specs.Prelude.{◌≡◌, ◌∷◌, [], MatchOption, is_some, option_map, IfOk, IfSome};
+ghost use Rattle.std.specs.Prelude.{◌≡◌, ◌∷◌, [], MatchOption, is_some, option_map, IfOk, IsErr, true};
 ghost use Rattle.std.specs.Char.{is_ascii_digit, is_ascii_hexdigit};
 ghost use Rattle.std.specs.List.{list_all};
 ghost use Rattle.lab_script.specs.Words as said;
-ghost use Rattle.lab_script.specs.Stations.{count_of};
 
-use channel_fsm::{ChanId, Sub};
+use attempt_journal::Timer;
+use bts_model::Habit;
+use channel_fsm::{Rate, Sub};
 use rsl_messages::Octets;
 use std::alloc::{AllocError, Allocator};
 
-/// The first word of a text, and what stands after its blank; `None` where the text is one word.
-pub(crate) fn first_word(text: &str) -> Option<(&str, &str)>
-    ensures { MatchOption result (said.words_of text.now ≡ text.now ∷ [])
-        (λ cut. said.words_of text.now ≡ cut.0.now ∷ said.words_of cut.1.now) }
+/// The first word of a text, and what stands behind its blank, where it has one.
+pub fn cut_word(text: &str) -> (&str, Option<&str>)
+    ensures words { said.words_of text.now ≡ result.0.now ∷
+        said.words_left (option_map (λ rest. rest.now) result.1) }
 {
-    text.split_once(' ')
+    match text.split_once(' ') {
+        Some((word, rest)) => (word, Some(rest)),
+        None => (text, None),
+    }
 }
 
 /// Whether the text has decimal digits alone.
@@ -48,7 +52,7 @@ pub(crate) fn octet(text: &str) -> Option<u8>
 
 /// The number from 1 to 255 that the digits of a text write.
 pub(crate) fn count(text: &str) -> Option<u8>
-    ensures { result ≡ count_of text.now }
+    ensures { result ≡ said.count_of text.now }
 {
     match octet(text) {
         Some(0) | None => None,
@@ -86,7 +90,7 @@ fn half(text: &str) -> Option<Sub>
 
 /// `TN` is the whole timeslot, `TN/0` and `TN/1` are its halves.
 #[tactic(auto, unfolding(crate::specs::Words::timeslot_of))]
-fn timeslot(text: &str) -> Option<(u8, Sub)>
+pub(crate) fn timeslot(text: &str) -> Option<(u8, Sub)>
     ensures { result ≡ said.timeslot_of text.now }
 {
     match around_slash(text) {
@@ -95,30 +99,39 @@ fn timeslot(text: &str) -> Option<(u8, Sub)>
     }
 }
 
-/// Whether a text is a timeslot, or a half of one.
-pub fn is_timeslot(text: &str) -> bool
-    ensures read { result ≡ is_some (said.timeslot_of text.now) }
+/// The timer of this name.
+pub(crate) fn timer(text: &str) -> Option<Timer>
+    ensures { result ≡ said.timer_of text.now }
 {
-    timeslot(text).is_some()
+    match text {
+        "T3103" => Some(Timer::T3103),
+        "T7" => Some(Timer::T7),
+        "T8" => Some(Timer::T8),
+        _ => None,
+    }
 }
 
-/// The channel of three words.
-pub(crate) fn channel_at(cell: &str, trx: &str, tn: &str) -> Option<ChanId>
-    ensures { result ≡ said.channel_at (said.number_below 256 cell.now)
-        (said.number_below 256 trx.now) (said.timeslot_of tn.now) }
+/// The rate of this name.
+pub(crate) fn rate(text: &str) -> Option<Rate>
+    ensures { result ≡ said.rate_of text.now }
 {
-    let (cell, trx) = (octet(cell)?, octet(trx)?);
-    let (tn, sub) = timeslot(tn)?;
-    Some(ChanId { cell, trx, tn, sub })
+    match text {
+        "full" => Some(Rate::Full),
+        "half" => Some(Rate::Half),
+        _ => None,
+    }
 }
 
-/// `CELL TRX TN`
-pub(crate) fn channel(text: &str) -> Option<ChanId>
-    ensures { result ≡ said.channel_of (said.words_of text.now) }
+/// The habit of this name.
+pub(crate) fn habit(text: &str) -> Option<Habit>
+    ensures { result ≡ said.habit_of text.now }
 {
-    let (cell, text) = first_word(text)?;
-    let (trx, tn) = first_word(text)?;
-    channel_at(cell, trx, tn)
+    match text {
+        "arrive" => Some(Habit::Arrive),
+        "return" => Some(Habit::Return),
+        "vanish" => Some(Habit::Vanish),
+        _ => None,
+    }
 }
 
 /// Whether the text has hexadecimal digits alone.
@@ -135,12 +148,27 @@ pub fn is_octets(text: &str) -> bool
     !text.is_empty() && text.len() % 2 == 0 && is_hex_digits(text)
 }
 
-/// The octets that a text of hexadecimal digits writes.
-pub(crate) fn octets<A: Allocator + Copy>(alloc: A, text: &str) -> Result<Octets<A>, AllocError>
-    ensures { IfOk result (λ octets. IfSome (said.octets_of text.now) (λ written. octets ≡ written)) }
+/// The octets that a text writes in hexadecimal; nothing where it writes none. Only where memory is refused the digits are
+/// looked at once more: a text that writes none needs none.
+pub(crate) fn octets<A: Allocator + Copy>(
+    alloc: A,
+    text: &str,
+) -> Result<Option<Octets<A>>, AllocError>
+    ensures value { IfOk result (λ octets. octets ≡ said.octets_of text.now) }
+    ensures memory { IsErr result → is_some (said.octets_of text.now) ≡ true }
 {
+    if text.is_empty() {
+        return Ok(None);
+    }
     match hex::decode(alloc, text) {
-        Ok(octets) => Ok(Octets::from_vec(octets)),
-        Err(_) => Err(AllocError),
+        Ok(octets) => Ok(Some(Octets::from_vec(octets))),
+        // octets are refused for want of memory alone
+        Err(_) => {
+            if is_octets(text) {
+                Err(AllocError)
+            } else {
+                Ok(None)
+            }
+        }
     }
 }

@@ -1,12 +1,14 @@
 -- The inputs of lines, one line after another.
-use Rattle.std.proofs.Common.{◌≡◌, ◌++◌, ◌∷◌, ◌+◌, ◌<◌, ◌≤◌, ◌&&◌, ◌||◌, ◌⊎◌, inl, inr, ℕ, suc, zero, Bool, true, false, cond, not, nat_lt, List, [], take, drop, length, codes, refl, sym, ap, subst, ◌∙◌, arith}
+use Rattle.std.proofs.Common.{◌≡◌, ◌++◌, ◌∷◌, ◌+◌, ◌<◌, ◌&&◌, ◌||◌, inl, inr, ℕ, suc, zero, Bool, true, false, cond, not, nat_lt, List, [], take, drop, length, codes, refl, sym, ap, ◌∙◌, arith}
 use Rattle.std.proofs.Math.Numerals.{one-add}
 use Rattle.std.proofs.lemmas.List.{append_assoc}
 use Rattle.std.proofs.lemmas.Bool.{and_parts, cases_Bool, lt-ltb}
 use Rattle.std.proofs.lemmas.Slice.Eq.{bytes_eq-Decides}
 use Rattle.std.specs.List.{filter_map, flat_map, list_any, slice_split, position_or_len, before_first, after_first}
-use Rattle.decoded_lines.specs.Reading.{is_feed, longest_line, most_kept, first_line, behind_line}
+use Rattle.decoded_lines.specs.Reading.{is_feed, longest_line, first_line, behind_line}
 use Rattle.decoded_lines.proofs.LineLemmas.{split_first, split_none, left_none}
+use Rattle.lab_script.specs.Forms.{form_named}
+use Rattle.lab_script.specs.Said.{line_said}
 use Rattle.lab_script.specs.Script.{is_sim, item_of}
 use Rattle.lab_runs.specs.Turns.{inputs_in}
 use Rattle.live_runs.specs.Lines.{script_line, is_text, can_be_read, items_at, inputs_at, attaches, sim_behind, inputs_of, inputs_from}
@@ -88,7 +90,7 @@ first_input {A = A} has_sim line lines = elim (cases_Bool (attaches line)) [
 
 -- an empty line gives nothing
 blank_gives_none : {A : Type 0} (has_sim : Bool) → inputs_at {A = A} has_sim [] ≡ []
-unfolding items_at
+unfolding items_at line_said form_named
 blank_gives_none {A = A} has_sim = either_way (can_be_read has_sim []) (inputs_in (items_at {A = A} [])) [] refl
 
 -- nor does nothing

@@ -1,17 +1,15 @@
 -- Which lines of those that come in can be read, and what they give. A line is the list of its octets, without its line feed.
 -- Ours, of no standard.
-use Rattle.std.specs.Prelude.{◌≡◌, ◌&&◌, ◌||◌, ◌++◌, ℕ, Bool, true, false, not, nat_lt, if◌then◌else◌, List, [], ◌∷◌, codes, length}
+use Rattle.std.specs.Prelude.{◌≡◌, ◌&&◌, ◌||◌, ◌++◌, ℕ, Bool, true, false, not, nat_lt, if◌then◌else◌, List, [], ◌∷◌, length, Option, Some, None}
 use Rattle.std.specs.List.{list_any, filter_map, flat_map, slice_split, before_first, after_first}
 use Rattle.std.specs.Str.{is_utf8}
 use Rattle.std.specs.Str.Lines.{strip_carriage_return}
 use Rattle.ho_procedure.specs.declared.exchange.Inbound.{Inbound}
 use Rattle.decoded_lines.specs.Reading.{is_feed, longest_line}
 use Rattle.lab_script.specs.declared.side.Side.{Side}
-use Rattle.lab_script.specs.declared.script.Given.{Given}
-use Rattle.lab_script.specs.declared.script.Given.TheVariants.{Input, Attach, Set, HangUp}
 use Rattle.lab_script.specs.declared.script.Item.{Item}
 use Rattle.lab_script.specs.Script.{is_line, is_sim, needs_sim, item_of, is_item_there}
-use Rattle.lab_runs.specs.Turns.{inputs_in}
+use Rattle.lab_runs.specs.Turns.{inputs_in, is_attach}
 use Rattle.live_runs.specs.declared.line.Said.{Said}
 use Rattle.live_runs.specs.declared.line.Said.TheVariants as said
 
@@ -35,11 +33,6 @@ can_be_read has_sim line = is_text line && is_readable has_sim line
 unfoldable pub items_at : {A : Type 0} → List ℕ → List (Item A)
 items_at line = filter_map item_of (script_line line ∷ [])
 
--- and as the last of a script: behind the line that attaches the simulators, or alone
-unfoldable pub items_behind : {A : Type 0} → Bool → List ℕ → List (Item A)
-items_behind true line = filter_map item_of (codes "sim" ∷ script_line line ∷ [])
-items_behind false line = filter_map item_of (script_line line ∷ [])
-
 -- the input of a line, if it can be read and gives one
 abbrev pub inputs_at : {A : Type 0} → Bool → List ℕ → List (Side × Inbound A)
 inputs_at has_sim line = if can_be_read has_sim line then inputs_in (items_at line) else []
@@ -61,18 +54,10 @@ inputs_of has_sim lines = flat_map (inputs_at has_sim) (before_first attaches li
 abbrev pub inputs_from : {A : Type 0} → Bool → List ℕ → List (Side × Inbound A)
 inputs_from has_sim octets = inputs_of has_sim (slice_split is_feed octets)
 
--- what is given attaches the simulators
-abbrev pub is_attach : {A : Type 0} → Given A → Bool
-is_attach (Input input) = false
-is_attach Attach = true
-is_attach (Set setting) = false
-is_attach (HangUp call) = false
-
--- the last of some items
-abbrev pub IsLastOf : {A : Type 0} → List (Item A) → Said A → Type 0
-IsLastOf items said.Unreadable = ⊥
-IsLastOf items said.Nothing = items ≡ []
-IsLastOf {A} items (said.Gives item) = (front : List (Item A)) × (items ≡ front ++ item ∷ [])
+-- what a line that gives an item or nothing says
+abbrev pub said_of : {A : Type 0} → Option (Item A) → Said A
+said_of None = said.Nothing
+said_of (Some item) = said.Gives item
 
 -- the line was read
 abbrev pub is_read : {A : Type 0} → Said A → Bool

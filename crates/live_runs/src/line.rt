@@ -1,12 +1,11 @@
 //! What a line gives, by the rules of scripts.
-ghost use Rattle.std.specs.Prelude.{◌≡◌, ℕ, true, false, not, nat_lt, length, Err, IfOk, OnOk, MatchOption};
+ghost use Rattle.std.specs.Prelude.{◌≡◌, true, false, not, nat_lt, length, IfOk, MatchOption};
 ghost use Rattle.std.specs.List.{list_any};
 ghost use Rattle.decoded_lines.specs.Reading.{is_feed, longest_line};
-ghost use Rattle.lab_script.specs.Script.{AreThere};
-ghost use Rattle.live_runs.specs.Lines.{is_text, is_readable, items_behind, IsLastOf, Says};
+ghost use Rattle.live_runs.specs.Lines.{is_text, said_of, Says};
 
 use decoded_lines::LONGEST_LINE;
-use lab_script::script::{Item, ScriptFault, read_script};
+use lab_script::script::{Item, is_unreadable, read_item, without_return};
 use std::alloc::{AllocError, Allocator, Global};
 use std::str;
 
@@ -38,7 +37,7 @@ fn is_one(line: &[u8]) -> bool
 /// The text of a line, where it is one that isn't too long.
 fn text_of(line: &[u8]) -> Option<&str>
     ensures { MatchOption result (is_text line.now ≡ false)
-        (λ text. (text.now ≡ line.now) × (is_text text.now ≡ true) × (list_any is_feed text.now ≡ false)) }
+        (λ text. (text.now ≡ line.now) × (is_text text.now ≡ true)) }
 {
     if !is_short(line) {
         return None;
@@ -52,63 +51,11 @@ fn text_of(line: &[u8]) -> Option<&str>
     }
 }
 
-/// The line that attaches the simulators, with its end.
-const SIM_LINE: &str = "sim\n";
-
-/// What a line gives as that of a script which has no other.
-fn items_alone<A: Allocator + Copy>(alloc: A, line: &str) -> Result<Vec<Item<A>, A>, ScriptFault>
-    requires { list_any is_feed line.now ≡ false }
-    ensures items { IfOk result (λ items. items.items ≡ items_behind false line.now) }
-    ensures sides { IfOk result (λ items. AreThere false items.items) }
-    ensures read { OnOk result (is_readable false line.now ≡ true) }
-    ensures unreadable { (number : ℕ) → result ≡ Err (ScriptFault.Line number) →
-        is_readable false line.now ≡ false }
+/// What a line that gives an item or nothing says.
+fn said_of<A: Allocator>(item: Option<Item<A>>) -> Said<A>
+    ensures { result ≡ said_of item }
 {
-    read_script(alloc, line, false)
-}
-
-/// What a line gives as the last of a script of two, of which the first attaches the simulators; and what that gives.
-fn items_behind_sim<A: Allocator + Copy>(
-    alloc: A,
-    line: &str,
-) -> Result<Vec<Item<A>, A>, ScriptFault>
-    requires { list_any is_feed line.now ≡ false }
-    ensures items { IfOk result (λ items. items.items ≡ items_behind true line.now) }
-    ensures sides { IfOk result (λ items. AreThere false items.items) }
-    ensures read { OnOk result (is_readable true line.now ≡ true) }
-    ensures unreadable { (number : ℕ) → result ≡ Err (ScriptFault.Line number) →
-        is_readable true line.now ≡ false }
-{
-    let mut script = String::from_str(alloc, SIM_LINE)?;
-    script.push_str(line)?;
-    read_script(alloc, &script, false)
-}
-
-/// What a line gives, as the last of a script, where simulators are attached before it or not.
-fn items_behind<A: Allocator + Copy>(
-    alloc: A,
-    line: &str,
-    has_sim: bool,
-) -> Result<Vec<Item<A>, A>, ScriptFault>
-    requires { list_any is_feed line.now ≡ false }
-    ensures items { IfOk result (λ items. items.items ≡ items_behind has_sim line.now) }
-    ensures sides { IfOk result (λ items. AreThere false items.items) }
-    ensures read { OnOk result (is_readable has_sim line.now ≡ true) }
-    ensures unreadable { (number : ℕ) → result ≡ Err (ScriptFault.Line number) →
-        is_readable has_sim line.now ≡ false }
-{
-    if has_sim {
-        items_behind_sim(alloc, line)
-    } else {
-        items_alone(alloc, line)
-    }
-}
-
-/// The last of some items, if there is one.
-fn last_said<A: Allocator + Copy>(mut items: Vec<Item<A>, A>) -> Said<A>
-    ensures { IsLastOf items.items result }
-{
-    match items.pop() {
+    match item {
         Some(item) => Said::Gives(item),
         None => Said::Nothing,
     }
@@ -121,14 +68,12 @@ fn read_text<A: Allocator + Copy>(
     has_sim: bool,
 ) -> Result<Said<A>, AllocError>
     requires text { is_text line.now ≡ true }
-    requires one { list_any is_feed line.now ≡ false }
     ensures { IfOk result (Says has_sim line.now) }
 {
-    match items_behind(alloc, line, has_sim) {
-        Ok(items) => Ok(last_said(items)),
-        Err(ScriptFault::Line(_number)) => Ok(Said::Unreadable),
-        Err(ScriptFault::NoMemory) => Err(AllocError),
+    if is_unreadable(false, has_sim, line) {
+        return Ok(Said::Unreadable);
     }
+    Ok(said_of(read_item(alloc, without_return(line))?))
 }
 
 /// What a line says, where simulators are attached or not.

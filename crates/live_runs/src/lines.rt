@@ -56,7 +56,7 @@ fn take_line<A: Allocator + Copy, L: LiveListener<A>, E: Write>(
     ensures takes { OnOk result (Takes line.now live.old live.new) }
 {
     if !live.take(line, listener)? {
-        refuse(number, line, live.has_sim, listener, errors)?;
+        refuse(number, line, live.course.has_simulators(), listener, errors)?;
     }
     Ok(listener.hear_line_end(errors)?)
 }

@@ -1,9 +1,9 @@
 //! A live controller: it is given its lines one by one.
 ghost use Rattle.std.specs.Prelude.{◌≡◌, ◌∷◌, [], ◌||◌, true, false, IfOk, OnOk};
 ghost use Rattle.lab_script.specs.Script.{is_item_there};
-ghost use Rattle.lab_runs.specs.Turns.{inputs_in};
-ghost use Rattle.lab_runs.specs.Course.{AreOpenings, positions_of, has_peer};
-ghost use Rattle.live_runs.specs.Lines.{can_be_read, is_attach};
+ghost use Rattle.lab_runs.specs.Turns.{inputs_in, is_attach};
+ghost use Rattle.lab_runs.specs.Course.{AreOpenings, positions_of, has_peer, has_simulators};
+ghost use Rattle.live_runs.specs.Lines.{can_be_read};
 ghost use Rattle.live_runs.specs.Live.{Goes, Takes};
 
 use crate::line::{Said, read_line};
@@ -11,7 +11,7 @@ use cell_table::Site;
 use lab_runs::course::Course;
 use lab_runs::listener::Listener;
 use lab_runs::run::{LabFault, Sites, fresh_course};
-use lab_script::script::{Given, Item};
+use lab_script::script::Item;
 use std::alloc::{AllocError, Allocator, Global};
 
 /// A controller that is given its lines one by one, and the simulators around it once a line attached them. What came of a
@@ -20,19 +20,7 @@ use std::alloc::{AllocError, Allocator, Global};
 pub struct Live<A: Allocator + Copy = Global> {
     /// The controller, and the simulators around it.
     pub course: Course<A>,
-    /// Whether a line attached the simulators.
-    pub has_sim: bool,
     alloc: A,
-}
-
-/// Whether what a line gives attaches the simulators.
-fn is_attach<A: Allocator>(given: &Given<A>) -> bool
-    ensures { result ≡ is_attach given.now }
-{
-    match given {
-        Given::Attach => true,
-        Given::Input(_) | Given::Set(_) | Given::HangUp(_) => false,
-    }
 }
 
 impl<A: Allocator + Copy> Live<A> {
@@ -40,7 +28,7 @@ impl<A: Allocator + Copy> Live<A> {
     pub fn new(alloc: A, site: Site<A>) -> Result<Live<A>, AllocError>
         ensures opening { IfOk result (λ live. AreOpenings (site ∷ []) (positions_of live.course.controllers)) }
         ensures peer { IfOk result (λ live. has_peer live.course ≡ false) }
-        ensures sim { IfOk result (λ live. live.has_sim ≡ false) }
+        ensures sim { IfOk result (λ live. has_simulators live.course ≡ false) }
     {
         let sites = Sites {
             first: site,
@@ -48,7 +36,6 @@ impl<A: Allocator + Copy> Live<A> {
         };
         Ok(Live {
             course: fresh_course(alloc, sites)?,
-            has_sim: false,
             alloc,
         })
     }
@@ -57,12 +44,11 @@ impl<A: Allocator + Copy> Live<A> {
     fn follow<L: Listener<A>>(&mut self, item: Item<A>, listener: &mut L) -> Result<(), LabFault>
         requires there { is_item_there (has_peer self.old.course) item ≡ true }
         ensures goes { OnOk result (Goes (inputs_in (item ∷ [])) self.old self.new) }
-        ensures sim { OnOk result (self.new.has_sim ≡ self.old.has_sim || is_attach item.given) }
+        ensures sim { OnOk result (has_simulators self.new.course ≡
+            is_attach item.given || has_simulators self.old.course) }
     {
-        let attaches = is_attach(&item.given);
         self.course.follow(item, listener)?;
         self.course.turns.clear();
-        self.has_sim = self.has_sim || attaches;
         Ok(())
     }
 
@@ -74,10 +60,10 @@ impl<A: Allocator + Copy> Live<A> {
     pub fn take<L: Listener<A>>(&mut self, line: &[u8], listener: &mut L) -> Result<bool, LabFault>
         requires alone { has_peer self.old.course ≡ false }
         ensures takes { OnOk result (Takes line.now self.old self.new) }
-        ensures read { IfOk result (λ read. read ≡ can_be_read self.old.has_sim line.now) }
+        ensures read { IfOk result (λ read. read ≡ can_be_read (has_simulators self.old.course) line.now) }
         ensures unreadable { result ≡ Ok false → self.new ≡ self.old }
     {
-        let said = read_line(self.alloc, line, self.has_sim)?;
+        let said = read_line(self.alloc, line, self.course.has_simulators())?;
         match said {
             Said::Unreadable => Ok(false),
             Said::Nothing => Ok(true),

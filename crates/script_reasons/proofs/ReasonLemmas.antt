@@ -1,12 +1,12 @@
 -- Facts of the first thing that is wrong with the words of a line.
 use Rattle.std.proofs.Common.{◌≡◌, ℕ, ◌<◌, ◌≤◌, ◌-◌, ◌∷◌, List, [], Bool, true, false, Some, None, refl, sym, ap, ◌∙◌, arith, length, get_or, drop, take}
 use Rattle.std.proofs.Math.Seq.{take-length}
-use Rattle.script_reasons.specs.declared.forms.Slot.{Slot}
-use Rattle.script_reasons.specs.declared.forms.Slot.TheVariants.{Call}
-use Rattle.script_reasons.specs.declared.forms.Form.{Form}
+use Rattle.lab_script.specs.declared.forms.Slot.{Slot}
+use Rattle.lab_script.specs.declared.forms.Slot.TheVariants.{Call}
+use Rattle.lab_script.specs.declared.forms.Form.{Form}
 use Rattle.script_reasons.specs.declared.reasons.Fault.TheVariants.{Word, Missing, Behind}
-use Rattle.script_reasons.specs.Words.{words_of}
-use Rattle.script_reasons.specs.Forms.{fits, form_named}
+use Rattle.lab_script.specs.Words.{words_of}
+use Rattle.lab_script.specs.Forms.{fits, form_named}
 use Rattle.script_reasons.specs.Reasons.{first_wrong, named_reason, text_reason}
 
 -- nothing is left on either side

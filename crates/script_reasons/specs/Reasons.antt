@@ -1,16 +1,17 @@
 -- Why a line can't be read: the first thing that is wrong with it, and the word that is. Ours, of no standard.
-use Rattle.std.specs.Prelude.{ℕ, ◌-◌, ◌==◌, ◌||◌, ◌&&◌, Bool, not, nat_eq, if◌then◌else◌, List, [], ◌∷◌, map, Option, Some, None, option_map, option_and_then, slice_get}
+use Rattle.std.specs.Prelude.{ℕ, ◌-◌, ◌==◌, ◌||◌, ◌&&◌, Bool, true, false, not, nat_eq, if◌then◌else◌, List, [], ◌∷◌, map, Option, Some, None, option_map, option_and_then, slice_get}
 use Rattle.std.specs.List.{slice_split, filter_map, starts_with}
 use Rattle.std.specs.Option.{option_or}
 use Rattle.std.specs.Str.Lines.{strip_carriage_return}
 use Rattle.lab_script.specs.Script.{is_comment, is_blank}
 use Rattle.lab_script.specs.Sides.{is_for_peer, text_of}
-use Rattle.script_reasons.specs.declared.forms.Slot.{Slot}
-use Rattle.script_reasons.specs.declared.forms.Form.{Form}
+use Rattle.lab_script.specs.declared.forms.Slot.{Slot}
+use Rattle.lab_script.specs.declared.forms.Form.{Form}
 use Rattle.script_reasons.specs.declared.reasons.Fault.{Fault}
 use Rattle.script_reasons.specs.declared.reasons.Fault.TheVariants.{ByteOrderMark, NoPeer, Keyword, LoneKeyword, PeerKeyword, PeerSim, Word, Missing, Behind, NoSim}
-use Rattle.script_reasons.specs.Words.{words_of}
-use Rattle.script_reasons.specs.Forms.{fits, form_named, slots_of, needs_sim, is_sim}
+use Rattle.lab_script.specs.declared.forms.Form.TheVariants as form
+use Rattle.lab_script.specs.Words.{words_of}
+use Rattle.lab_script.specs.Forms.{fits, form_named, slots_of, needs_sim}
 
 -- what is wrong, and the word that is, or no octets where none is
 abbrev pub Wrong : Type 0
@@ -35,6 +36,11 @@ all_wrong form slots words = filter_map (λ place. wrong_at form place.0 place.1
 
 unfoldable pub first_wrong : Form → List Slot → List (List ℕ) → Option Wrong
 first_wrong form slots words = slice_get (all_wrong form slots words) 0
+
+-- the one form of lines that attach what is simulated
+abbrev pub is_sim : Form → Bool
+is_sim form.Sim = true
+is_sim other = false
 
 -- what is wrong with the words behind the first of a line of a form
 unfoldable pub form_reason : Bool → List (List ℕ) → Form → Option Wrong

@@ -4,10 +4,8 @@
 //! words behind that are looked at in their order; the first that is wrong is the reason.
 #![tactic(auto)]
 
-mod forms;
 mod reasons;
 mod text;
-mod words;
 
-pub use forms::{Form, Slot};
+pub use lab_script::forms::{Form, Slot};
 pub use reasons::{Fault, Reason, line_reason, script_reason};

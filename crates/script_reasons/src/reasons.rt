@@ -1,11 +1,10 @@
 //! Why a line can't be read.
 ghost use Rattle.std.specs.Prelude.{◌≡◌, [], option_map};
 ghost use Rattle.std.specs.Str.Lines.{strip_carriage_return};
-ghost use Rattle.script_reasons.specs.Words.{words_left};
+ghost use Rattle.lab_script.specs.Words.{words_left};
 ghost use Rattle.script_reasons.specs.Reasons as said;
 
-use crate::forms::{Form, Slot, form_named};
-use crate::words::cut_word;
+use lab_script::forms::{Form, Slot, cut_word, form_named};
 use lab_script::script::{cut_side, is_blank, is_comment, is_for_peer, without_return};
 
 /// What is wrong.
@@ -82,13 +81,20 @@ fn first_wrong<'a>(form: Form, slots: &[Slot], rest: Option<&'a str>) -> Option<
     }
 }
 
+/// Whether a line of this form attaches what is simulated.
+fn is_sim(form: Form) -> bool
+    ensures { result ≡ said.is_sim form }
+{
+    form == Form::Sim
+}
+
 /// What is wrong with the words behind the first of a line of this form.
 #[tactic(auto, unfolding(crate::specs::Reasons::form_reason))]
 fn form_reason<'a>(is_peer: bool, form: Form, rest: Option<&'a str>) -> Option<Reason<'a>>
     ensures { option_map (λ reason. (reason.fault, reason.found.now)) result ≡
         said.form_reason is_peer (words_left (option_map (λ text. text.now) rest.entry)) form }
 {
-    if is_peer && form.is_sim() {
+    if is_peer && is_sim(form) {
         Some(without_word(Fault::PeerSim))
     } else {
         first_wrong(form, form.slots(), rest)

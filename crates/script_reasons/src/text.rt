@@ -1,6 +1,6 @@
 //! Reasons in words.
-use crate::forms::{Form, Slot};
 use crate::reasons::{Fault, Reason};
+use lab_script::forms::{Form, INPUTS, SETTINGS, Slot};
 use screen_text::Escaped;
 use std::fmt;
 
@@ -31,52 +31,48 @@ impl fmt::Display for Shown<'_> {
     }
 }
 
-impl Slot {
-    /// What the word is called.
-    fn name(self) -> &'static str {
-        match self {
-            Slot::Call => "CALL",
-            Slot::Cell => "CELL",
-            Slot::Trx => "TRX",
-            Slot::Timeslot => "TN",
-            Slot::Octets => "HEX",
-            Slot::Timer => "TIMER",
-            Slot::Rate => "RATE",
-            Slot::Habit => "HABIT",
-            Slot::Count => "N",
-        }
+/// What the word of a slot may be.
+fn allowed(slot: Slot) -> &'static str {
+    match slot {
+        Slot::Call => "0 to 65535",
+        Slot::Cell | Slot::Trx => "0 to 255",
+        Slot::Timeslot => "0 to 7, with /0 or /1 behind it for half rate",
+        Slot::Octets => "one octet or more, each in two hexadecimal digits",
+        Slot::Timer => "T3103, T7 or T8",
+        Slot::Rate => "full or half",
+        Slot::Habit => "arrive, return or vanish",
+        Slot::Count => "1 to 255",
     }
+}
 
-    /// What it may be.
-    fn allowed(self) -> &'static str {
-        match self {
-            Slot::Call => "0 to 65535",
-            Slot::Cell | Slot::Trx => "0 to 255",
-            Slot::Timeslot => "0 to 7, with /0 or /1 behind it for half rate",
-            Slot::Octets => "one octet or more, each in two hexadecimal digits",
-            Slot::Timer => "T3103, T7 or T8",
-            Slot::Rate => "full or half",
-            Slot::Habit => "arrive, return or vanish",
-            Slot::Count => "1 to 255",
+/// The first words of lines of some forms, as they are listed.
+#[derive(Clone, Copy)]
+struct Keywords {
+    forms: &'static [Form],
+    /// What stands before the last. A comma and a blank stand before the others.
+    before_last: &'static str,
+}
+
+impl Keywords {
+    /// What stands before the word of this place, counted from 0.
+    fn before(self, place: usize) -> &'static str {
+        match self.forms.get(place..) {
+            _ if place == 0 => "",
+            Some([_]) => self.before_last,
+            Some(_) | None => ", ",
         }
     }
 }
 
-impl fmt::Display for Form {
+impl fmt::Display for Keywords {
     fn fmt<W: fmt::Write>(&self, f: &mut fmt::Formatter<W>) -> fmt::Result {
-        f.write_str(self.keyword())?;
-        for slot in self.slots() {
-            write!(f, " {}", slot.name())?;
+        for (place, form) in self.forms.iter().enumerate() {
+            f.write_str(self.before(place))?;
+            f.write_str(form.keyword())?;
         }
         Ok(())
     }
 }
-
-/// What may begin a line that gives a controller something.
-const INPUTS: &str = "open, seize, handover, undo, clear, expire, abis, a";
-
-/// And one that asks something of what is simulated.
-const SETTINGS: &str = "refuse, hold, let, mobile, double, cut or hangup";
 
 impl fmt::Display for Reason<'_> {
     fn fmt<W: fmt::Write>(&self, f: &mut fmt::Formatter<W>) -> fmt::Result {
@@ -89,6 +85,14 @@ impl fmt::Display for Reason<'_> {
             word,
             nothing: "a blank",
         };
+        let inputs = Keywords {
+            forms: INPUTS,
+            before_last: ", ",
+        };
+        let settings = Keywords {
+            forms: SETTINGS,
+            before_last: " or ",
+        };
         match self.fault {
             Fault::ByteOrderMark => write!(f, "a byte order mark stands before the first word"),
             Fault::NoPeer => write!(
@@ -97,18 +101,18 @@ impl fmt::Display for Reason<'_> {
             ),
             Fault::Keyword => write!(
                 f,
-                "a line begins with {INPUTS}, sim, {SETTINGS}, with 2: and a blank, or with #, found {more}"
+                "a line begins with {inputs}, sim, {settings}, with 2: and a blank, or with #, found {more}"
             ),
             Fault::LoneKeyword => write!(
                 f,
-                "a line begins with {INPUTS}, sim, {SETTINGS}, or with #, found {more}"
+                "a line begins with {inputs}, sim, {settings}, or with #, found {more}"
             ),
             Fault::PeerKeyword => {
-                write!(f, "behind 2: stands {INPUTS}, {SETTINGS}, found {found}")
+                write!(f, "behind 2: stands {inputs}, {settings}, found {found}")
             }
             Fault::PeerSim => write!(f, "sim is for both controllers, and stands without 2:"),
             Fault::Word(slot) => {
-                write!(f, "{} is {}, found {found}", slot.name(), slot.allowed())
+                write!(f, "{} is {}, found {found}", slot.name(), allowed(slot))
             }
             Fault::Missing(slot, form) => write!(f, "{} is missing in {form}", slot.name()),
             Fault::Behind(form) => write!(f, "nothing stands behind {form}, found {more}"),

@@ -1,4 +1,4 @@
-//! Why a line of a script can't be read, in words: the line that `first_unreadable` names, which has a grammar of its own.
+//! Why a line of a script can't be read, in words: the line that `first_unreadable` names.
 use super::{Fail, equals_at};
 use lab_script::script::first_unreadable;
 use script_reasons::{line_reason, script_reason};

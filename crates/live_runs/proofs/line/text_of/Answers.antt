@@ -1,5 +1,4 @@
 use Rattle.std.proofs.Common.{◌≡◌, ◌∙◌, sym, ap, not, true}
-use Rattle.std.proofs.lemmas.Bool.{not-true}
 use Rattle.std.specs.List.{list_any}
 use Rattle.decoded_lines.specs.Reading.{is_feed}
 use Rattle.live_runs.specs.Lines.{is_text}
@@ -18,7 +17,6 @@ returns-in-Ok c =
     let one : not (list_any is_feed c.args.line.now) ≡ true = sym c.is_one.ensures ∙ c.if-not-is_one.false in (
       same,
       ap is_text same ∙ text_is c.args.line.now (sym c.is_short.ensures ∙ c.if-not-is_short.false) one c.in-Ok.ensures.cases.1,
-      ap (list_any is_feed) same ∙ not-true (list_any is_feed c.args.line.now) one,
     )
 
 pub returns-in-Err : goal.returns-in-Err

@@ -15,7 +15,7 @@ pub loop-item-preserved : goal.loop-item-preserved
 loop-item-preserved g c = record {
   can_next = tt;
   is_finite = tt;
-  went = rw (inputs_joined c.loop-item.yielded (c.in-Some.item ∷ [])) (went_on _ _ _ _ _ c.loop-item.invariant.went (went_then _ _ _ _ c.in_ok-begin.ensures.went c.in_ok-settle.ensures));
+  went = rw (inputs_joined c.loop-item.yielded (c.in-Some.item ∷ [])) (went_on _ _ _ _ _ c.loop-item.invariant.went (went_then _ _ _ _ c.in_ok-begin.ensures.went c.in_ok-settle.ensures.went));
 }
 
 pub begin-requires : goal.begin-requires
