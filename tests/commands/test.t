@@ -1,12 +1,15 @@
-A script meets its comments, or the first line that isn't met is named, with what it expects and what came.
+A script meets its comments, or of each line that gives something the first comment that isn't met is named, with what it
+expects and what came.
 
 
-Nothing is looked at.
+A script that expects nothing isn't met.
 
   $ printf 'open 1 0 0 3\nclear 1\n' >script.txt
   $ ./lab test examples/two_cells.toml script.txt
   1..1
-  ok 1 - script.txt
+  not ok 1 - script.txt
+  # nothing is expected
+  [1]
 
 Any lines.
 
@@ -24,6 +27,9 @@ What comes of the first line differs, and of the second.
   # line 4
   # expected: event open 1 0/0/2 -> done
   # came: event open 1 0/0/3 -> done
+  # line 7
+  # expected: no
+  # came: event look 1 -> record 0/0/3 pending
   [1]
 
 More comes than is expected.
@@ -127,6 +133,9 @@ there.
   # line 3
   # expected: in open 1 0 0 3
   # came: 1: in open 1 0 0 3
+  # line 9
+  # expected: in abis 0 0 0822010b081234
+  # came: 1: in abis 0 0 0822010b081234
   [1]
   $ ./lab test examples/two_cells.toml met.txt --peer met.txt 2>errors
   site 1

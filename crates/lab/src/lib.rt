@@ -19,6 +19,8 @@ pub mod live;
 pub mod program;
 mod run_reason;
 pub mod script_files;
+mod script_notes;
+mod script_sites;
 pub mod site_files;
 pub mod storm;
 pub mod trace_files;

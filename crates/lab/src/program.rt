@@ -85,7 +85,13 @@ pub fn perform<R: Files + AllocGlobal, I: Read + Drop, W: Write, E: Write>(
         Ok(Job::Live { site, views }) => live_file(rt, site, &views, input, out, errors),
         Ok(Job::Test { sites, scripts }) => test_files(rt, sites, &scripts, out, errors),
         Ok(Job::TryUndos { sites, scripts }) => try_undos_files(rt, sites, &scripts, out, errors),
-        Ok(Job::Record { sites, script }) => record_file(rt, sites, script, out, errors),
+        Ok(
+            Job::Record {
+                sites,
+                script,
+                recording,
+            },
+        ) => record_file(rt, sites, script, recording, out, errors),
         Ok(Job::Rewind { site, trace, line }) => rewind_files(rt, site, trace, line, out, errors),
         Ok(Job::Audit { site, trace }) => audit_files(rt, site, trace, out, errors),
         Ok(Job::Storm { .. }) => refuse_words(STORM_ALONE, errors),

@@ -2,6 +2,7 @@
 //!
 //! No clause says what the line holds. Which line of a script is refused is `read_script`'s to say, and why by which word
 //! `script_reasons` says.
+use crate::script_notes::say_bare_returns;
 use crate::site_files::{SitePaths, SiteTexts, say_reasons};
 use lab_runs::run::LabFault;
 use lab_script::script::{ScriptFault, read_script};
@@ -10,12 +11,13 @@ use script_reasons::script_reason;
 use std::alloc::Global;
 use std::io::Write;
 
-/// Says that a script may be cut, where its last line has no line feed.
+/// Says where a script has carriage returns that end no line, and that it may be cut, where its last line has no line feed.
 pub(crate) fn say_cut_script<E: Write>(
     path: &str,
     script: &str,
     errors: &mut E,
 ) -> Result<(), LabFault> {
+    say_bare_returns(path, script, errors)?;
     if script.is_empty() || script.ends_with("\n") {
         return Ok(());
     }

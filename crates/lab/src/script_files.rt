@@ -1,10 +1,12 @@
 //! Tests and records of scripts in files.
 use crate::files::text_of;
 use crate::run_reason::{say_cut_script, say_line, say_refusal};
+use crate::script_notes::{say_bare_returns, say_slipped};
+use crate::script_sites::{ScriptSites, fault_of, sites_of_script};
 use crate::site_files::{SitePaths, SiteTexts, say_reasons, site_texts};
-use cell_table::SiteFault;
+use expectations::Recording;
 use lab_runs::listener::Printing;
-use lab_runs::run::{LabFault, Status, read_sites, refuse_site};
+use lab_runs::run::{LabFault, Status, refuse_site};
 use std::alloc::Global;
 use std::io::{self, Write};
 use std::rt::Files;
@@ -13,14 +15,6 @@ use tested_scripts::tested::{Numbered, test_run};
 use tested_scripts::{Miss, print_miss, print_plan};
 use undone_runs::tried::{Trial, try_undos};
 use undone_runs::{Tally, print_tally};
-
-/// Why the sites can't be run over, if they can't.
-fn fault_of(alloc: Global, texts: &SiteTexts) -> Option<SiteFault> {
-    match read_sites(alloc, alloc, texts.first(), texts.peer()) {
-        Ok(_) => None,
-        Err(fault) => Some(fault),
-    }
-}
 
 /// The worse of two ends: one that was refused, then one that differs.
 fn worse(one: Status, other: Status) -> Status {
@@ -31,45 +25,71 @@ fn worse(one: Status, other: Status) -> Status {
     }
 }
 
-/// Tests the script of a file.
-fn test_file<R: Files + AllocGlobal, W: Write, E: Write>(
-    rt: &R,
+/// The sites that are given for scripts that name none: their paths and their texts.
+#[derive(Drop)]
+struct GivenSites<'a> {
+    paths: SitePaths<'a>,
+    texts: SiteTexts,
+}
+
+/// Tests a script over sites that can be run over.
+fn test_over<W: Write, E: Write>(
+    alloc: Global,
     sites: &SiteTexts,
+    script: &str,
     test: Numbered<'_>,
     out: &mut W,
     errors: &mut E,
 ) -> Result<Status, LabFault> {
-    let alloc = rt.alloc();
+    let peer = sites.peer();
+    let status = test_run(alloc, alloc, sites.first(), peer, script, test, out)?;
+    if status == Status::Refused {
+        // the sites were read before
+        say_line(alloc, test.name, script, peer.is_some(), errors)?;
+    }
+    Ok(status)
+}
+
+/// Tests the script of a file.
+fn test_file<R: Files + AllocGlobal, W: Write, E: Write>(
+    rt: &R,
+    given: &GivenSites<'_>,
+    test: Numbered<'_>,
+    out: &mut W,
+    errors: &mut E,
+) -> Result<Status, LabFault> {
     let Some(script) = text_of(rt, test.name, &mut io::sink(), errors)? else {
         print_miss(out, test.number, test.name, Miss::NoFile)?;
         return Ok(Status::Refused);
     };
     say_cut_script(test.name, &script, errors)?;
-    let peer = sites.peer();
-    let status = test_run(alloc, alloc, sites.first(), peer, &script, test, out)?;
-    if status == Status::Refused {
-        // the sites were read before
-        say_line(alloc, test.name, &script, peer.is_some(), errors)?;
+    say_slipped(test.name, &script, errors)?;
+    match sites_of_script(rt, given.paths, test.name, &script, errors)? {
+        ScriptSites::Given => test_over(rt.alloc(), &given.texts, &script, test, out, errors),
+        ScriptSites::Named(texts) => test_over(rt.alloc(), &texts, &script, test, out, errors),
+        ScriptSites::Unreadable => {
+            print_miss(out, test.number, test.name, Miss::NoSite)?;
+            Ok(Status::Refused)
+        }
     }
-    Ok(status)
 }
 
-/// The texts of sites that can be run over; nothing where a file or a site is refused, and then `out` and `errors` say so.
-fn readable_sites<R: Files + AllocGlobal, W: Write, E: Write>(
+/// Sites that can be run over; nothing where a file or a site is refused, and then `out` and `errors` say so.
+fn readable_sites<'a, R: Files + AllocGlobal, W: Write, E: Write>(
     rt: &R,
-    paths: SitePaths<'_>,
+    paths: SitePaths<'a>,
     out: &mut W,
     errors: &mut E,
-) -> Result<Option<SiteTexts>, LabFault> {
-    let Some(sites) = site_texts(rt, paths, out, errors)? else {
+) -> Result<Option<GivenSites<'a>>, LabFault> {
+    let Some(texts) = site_texts(rt, paths, out, errors)? else {
         return Ok(None);
     };
-    if let Some(fault) = fault_of(rt.alloc(), &sites) {
+    if let Some(fault) = fault_of(rt.alloc(), &texts) {
         refuse_site::<Global, _>(fault, &mut Printing::new(out))?;
-        say_reasons(rt.alloc(), paths, &sites, errors)?;
+        say_reasons(rt.alloc(), paths, &texts, errors)?;
         return Ok(None);
     }
-    Ok(Some(sites))
+    Ok(Some(GivenSites { paths, texts }))
 }
 
 /// Tests the scripts of some files over the site of another, or over two where a peer's is named, as [`test_run`] does of
@@ -99,10 +119,34 @@ pub fn test_files<R: Files + AllocGlobal, W: Write, E: Write>(
     Ok(ended)
 }
 
+/// Takes each attempt of a script back at each point, over sites that can be run over.
+fn try_over<W: Write, E: Write>(
+    alloc: Global,
+    sites: &SiteTexts,
+    script: &str,
+    name: &str,
+    tally: &mut Tally,
+    out: &mut W,
+    errors: &mut E,
+) -> Result<Status, LabFault> {
+    let trial = Trial {
+        site: sites.first(),
+        peer: sites.peer(),
+        script,
+        name,
+    };
+    let status = try_undos(alloc, alloc, trial, tally, out)?;
+    if status == Status::Refused {
+        // the sites were read before
+        say_line(alloc, name, script, trial.peer.is_some(), errors)?;
+    }
+    Ok(status)
+}
+
 /// Takes each attempt of the script of a file back at each point.
 fn try_file<R: Files + AllocGlobal, W: Write, E: Write>(
     rt: &R,
-    sites: &SiteTexts,
+    given: &GivenSites<'_>,
     name: &str,
     tally: &mut Tally,
     out: &mut W,
@@ -114,18 +158,14 @@ fn try_file<R: Files + AllocGlobal, W: Write, E: Write>(
         return Ok(Status::Refused);
     };
     say_cut_script(name, &script, errors)?;
-    let trial = Trial {
-        site: sites.first(),
-        peer: sites.peer(),
-        script: &script,
-        name,
-    };
-    let status = try_undos(alloc, alloc, trial, tally, out)?;
-    if status == Status::Refused {
-        // the sites were read before
-        say_line(alloc, name, &script, trial.peer.is_some(), errors)?;
+    match sites_of_script(rt, given.paths, name, &script, errors)? {
+        ScriptSites::Given => try_over(alloc, &given.texts, &script, name, tally, out, errors),
+        ScriptSites::Named(texts) => try_over(alloc, &texts, &script, name, tally, out, errors),
+        ScriptSites::Unreadable => {
+            print_miss(out, tally.next(), name, Miss::NoSite)?;
+            Ok(Status::Refused)
+        }
     }
-    Ok(status)
 }
 
 /// Says that no attempt was taken back, where none was.
@@ -159,12 +199,13 @@ pub fn try_undos_files<R: Files + AllocGlobal, W: Write, E: Write>(
     Ok(ended)
 }
 
-/// Records the script of a file over the site of another, or over two where a peer's is named, as [`record_run`] does of
+/// Records the script of a file, in these forms, over the site of another, or over two where a peer's is named, as [`record_run`] does of
 /// texts. Files and sites are refused as by [`run_files`](crate::files::run_files).
 pub fn record_file<R: Files + AllocGlobal, W: Write, E: Write>(
     rt: &R,
     paths: SitePaths<'_>,
     script: &str,
+    recording: Recording,
     out: &mut W,
     errors: &mut E,
 ) -> Result<Status, LabFault> {
@@ -175,7 +216,9 @@ pub fn record_file<R: Files + AllocGlobal, W: Write, E: Write>(
     let Some(text) = text_of(rt, script, out, errors)? else {
         return Ok(Status::Refused);
     };
-    let status = record_run(alloc, alloc, sites.first(), sites.peer(), &text, out)?;
+    say_bare_returns(script, &text, errors)?;
+    let peer = sites.peer();
+    let status = record_run(alloc, alloc, sites.first(), peer, &text, recording, out)?;
     if status == Status::Refused {
         say_refusal(alloc, paths, &sites, script, &text, errors)?;
     }

@@ -122,9 +122,11 @@ As in: bsc_lab live site.toml"
 /// What stands behind the help of `test`.
 pub(crate) const TEST_HELP: &str = with_script_lines!(
     "\
-Comments behind a script line, #> and a line of the trace, are in order the trace lines that it
-gives; #> .. stands for any lines, or none. A script line with no such comment isn't looked at.
-Those behind the last one may end with the trace's end.
+Comments behind a script line say what it gives. #> and a line of the trace: these are in order all
+lines, but that in .. may be left out; messages may stand in words, with some of their fields; #> ..
+stands for any lines, or none. #! and a text: no line begins so. #= and trx, channels, call, calls or
+references: what the books hold then. Behind the last line the trace's end may be expected, too.
+#% site PATH names the site of a script.
 
 With --undo-everywhere these comments are passed over. Behind each input, answers of simulators too,
 each attempt at handover that is open there is undone by an operator, in a run of its own, and taken
@@ -143,8 +145,8 @@ As in: bsc_lab test site.toml one.txt another.txt"
 /// What stands behind the help of `record`.
 pub(crate) const RECORD_HELP: &str = with_script_lines!(
     "\
-Comments that begin with #> are written anew; all else stays as it is. Write to another file than
-SCRIPT: a shell empties that first.
+Comments that begin with #> are written anew, with --states those with #= too; all else stays as it
+is. Write to another file than SCRIPT: a shell empties that first.
 
 ",
     "

@@ -3,6 +3,7 @@ use crate::help::{RECORD_HELP, TEST_HELP};
 use crate::site_paths::SitePaths;
 use crate::words::{argument, peer_argument, with_script};
 use clap::{Arg, ArgAction, ArgMatches, Command};
+use expectations::Recording;
 use std::alloc::{AllocError, Global};
 
 /// `--undo-everywhere`
@@ -29,12 +30,38 @@ pub(crate) fn test_command<'a>(alloc: Global) -> Result<Command<'a>, AllocError>
         .arg(everywhere_argument(alloc))
 }
 
-/// `record SITE SCRIPT [--peer SITE]`
+/// `--words` of `record`
+fn words_argument<'a>(alloc: Global) -> Arg<'a> {
+    Arg::new(alloc, "words")
+        .long("words")
+        .action(ArgAction::SetTrue)
+        .help("Expects messages in words, and leaves the line's echo out")
+}
+
+/// `--states`
+fn states_argument<'a>(alloc: Global) -> Arg<'a> {
+    Arg::new(alloc, "states")
+        .long("states")
+        .action(ArgAction::SetTrue)
+        .help("Also expects what the books hold: the channels in use, and each call")
+}
+
+/// `record SITE SCRIPT [--peer SITE] [--words] [--states]`
 pub(crate) fn record_command<'a>(alloc: Global) -> Result<Command<'a>, AllocError> {
     let command = Command::new(alloc, "record")
         .about("Runs a script and prints it with comments that expect what came of each line")
         .after_help(RECORD_HELP);
-    with_script(alloc, command)
+    with_script(alloc, command)?
+        .arg(words_argument(alloc))?
+        .arg(states_argument(alloc))
+}
+
+/// How a script is to be recorded.
+pub(crate) fn recording_of(record: &ArgMatches<'_>) -> Recording {
+    Recording {
+        words: record.get_flag("words"),
+        states: record.get_flag("states"),
+    }
 }
 
 /// The paths of the sites.

@@ -7,7 +7,9 @@ use crate::help::{
     with_messages,
 };
 use crate::refused_words::refused_line;
-use crate::script_words::{is_everywhere, record_command, script_paths, site_paths, test_command};
+use crate::script_words::{
+    is_everywhere, record_command, recording_of, script_paths, site_paths, test_command,
+};
 use crate::site_paths::SitePaths;
 use crate::storm_words::{StormSize, storm_command, storm_size};
 use crate::view_words::{
@@ -16,6 +18,7 @@ use crate::view_words::{
 use clap::error::ErrorKind;
 use clap::{Arg, ArgAction, ArgMatches, Command, Error, value_parser};
 use decoded_lines::{Asked, Detail, LinkName, link_named};
+use expectations::Recording;
 use explanations::Question;
 use run_views::Views;
 use std::alloc::{AllocError, Global};
@@ -59,10 +62,11 @@ pub enum Job<'a> {
         sites: SitePaths<'a>,
         scripts: Vec<&'a str>,
     },
-    /// A script is recorded over a site, or over two: the paths of the files.
+    /// A script is recorded over a site, or over two: the paths of the files, and how what comes is recorded.
     Record {
         sites: SitePaths<'a>,
         script: &'a str,
+        recording: Recording,
     },
     /// Many calls of a site move at once, handled by workers on threads: the site's path, and how many there are of both.
     Storm {
@@ -392,6 +396,7 @@ fn job_of<'a>(matches: &ArgMatches<'a>) -> Option<Job<'a>> {
         ("record", record) => Some(Job::Record {
             sites: site_paths(record)?,
             script: record.get_str("SCRIPT")?,
+            recording: recording_of(record),
         }),
         ("rewind", rewind) => Some(Job::Rewind {
             site: rewind.get_str("SITE")?,

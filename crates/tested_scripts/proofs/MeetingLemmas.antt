@@ -1,14 +1,14 @@
 -- Facts of the places to which lines lead.
-use Rattle.std.proofs.Common.{◌≡◌, ◌≢◌, ◌⊎◌, inl, inr, ◌↔◌, ℕ, zero, suc, ◌+◌, ◌<◌, ◌≤◌, Bool, true, false, if◌then◌else◌, rules, List, [], ◌∷◌, ◌++◌, Option, Some, None, refl, sym, ap, subst, ◌∙◌, arith, length, take, get_or, add-one, filter_map, min, max, nat_lt, Result, Ok, Err, IfOk, take_all}
+use Rattle.std.proofs.Common.{◌≡◌, ◌≢◌, ◌⊎◌, inl, inr, ◌↔◌, ℕ, zero, suc, ◌+◌, ◌<◌, ◌≤◌, Bool, true, false, if◌then◌else◌, rules, List, [], ◌∷◌, ◌++◌, Option, Some, None, refl, sym, ap, subst, ◌∙◌, arith, length, take, drop, get_or, add-one, filter_map, min, max, nat_lt, Result, Ok, Err, IfOk, take_all}
 use Rattle.std.proofs.lemmas.List.{get_or_default}
 use Rattle.std.proofs.lemmas.Bool.{cases_Bool, ltb-true, ltb-false}
-use Rattle.std.proofs.lemmas.Slice.Eq.{bytes_eq-Decides}
-use Rattle.std.specs.List.{Contains, cons_option, slice_get}
+use Rattle.std.specs.List.{Contains, cons_option, slice_get, list_any}
 use Rattle.std.proofs.lemmas.List.Elements.{Contains-append_left, Contains-append_right, Contains-append_cases}
 use Rattle.std.proofs.Math.Seq.{take-suc, take-nil}
 use Rattle.std.proofs.lemmas.List.Elements.{filter_map-append}
 use Rattle.tested_scripts.specs.Lines.{expected_in, is_any}
-use Rattle.tested_scripts.specs.Meeting.{Takes, Reaches, AreNext, is_text, is_at, behind}
+use Rattle.tested_scripts.specs.declared.compare.CameLine.{CameLine}
+use Rattle.tested_scripts.specs.Meeting.{Said, said_of, Takes, Reaches, AreNext, is_at, behind, is_echo, echo_or, begins_with_echo}
 
 pub contains_one : (x y : ℕ) → Contains (x ∷ []) y → x ≡ y
 contains_one x y (zero, l, e) = e
@@ -25,12 +25,12 @@ contains_more xs x y h = elim (Contains-append_cases xs (x ∷ []) y h) [
 ]
 
 -- the lines so far, and one more
-pub reaches_more : (came lines : List (List ℕ)) (line : List ℕ) (from between to : ℕ)
+pub reaches_more : (came : List Said) (lines : List (List ℕ)) (line : List ℕ) (from between to : ℕ)
     → Reaches came lines from between → Takes came (expected_in line) between to → Reaches came (lines ++ line ∷ []) from to
 reaches_more came [] line from between to r t = (to, subst (λ (x : ℕ). Takes came (expected_in line) x to) r t, refl)
 reaches_more came (l ∷ ls) line from between to r t = (r.0, r.1, reaches_more came ls line r.0 between to r.2 t)
 
-pub reaches_back : (came lines : List (List ℕ)) (line : List ℕ) (from to : ℕ)
+pub reaches_back : (came : List Said) (lines : List (List ℕ)) (line : List ℕ) (from to : ℕ)
     → Reaches came (lines ++ line ∷ []) from to → (between : ℕ) × Reaches came lines from between × Takes came (expected_in line) between to
 reaches_back came [] line from to r = (from, refl, subst (λ (x : ℕ). Takes came (expected_in line) from x) (sym r.2) r.1)
 reaches_back came (l ∷ ls) line from to r =
@@ -44,17 +44,17 @@ take_more (l ∷ ls) zero line e = search (rules, e)
 take_more (l ∷ ls) (suc i) line e = ap (λ (more : List (List ℕ)). l ∷ more) (take_more ls i line e)
 
 -- the places to which the lines so far lead, and those to which the next does
-pub next_led : (came lines : List (List ℕ)) (i : ℕ) (line : List ℕ) (places next : List ℕ) → slice_get lines i ≡ Some line
-    → ((p : ℕ) → Contains places p ↔ Reaches came (take i lines) 0 p) → AreNext came (expected_in line) places next
-    → (p : ℕ) → Contains next p ↔ Reaches came (take (i + 1) lines) 0 p
-next_led came lines i line places next there led are_next p =
+pub next_led : (came : List Said) (lines : List (List ℕ)) (start : ℕ) (i : ℕ) (line : List ℕ) (places next : List ℕ) → slice_get lines i ≡ Some line
+    → ((p : ℕ) → Contains places p ↔ Reaches came (take i lines) start p) → AreNext came (expected_in line) places next
+    → (p : ℕ) → Contains next p ↔ Reaches came (take (i + 1) lines) start p
+next_led came lines start i line places next there led are_next p =
     let more : take (i + 1) lines ≡ take i lines ++ (line ∷ []) = rw add-one (take_more lines i line there) in (
       λ h.
           let from = (are_next p).0 h in
-          subst (λ (ls : List (List ℕ)). Reaches came ls 0 p) (sym more)
-          (reaches_more came (take i lines) line 0 from.0 p ((led from.0).0 from.1) from.2),
+          subst (λ (ls : List (List ℕ)). Reaches came ls start p) (sym more)
+          (reaches_more came (take i lines) line start from.0 p ((led from.0).0 from.1) from.2),
       λ r.
-          let back = reaches_back came (take i lines) line 0 p (subst (λ (ls : List (List ℕ)). Reaches came ls 0 p) more r) in
+          let back = reaches_back came (take i lines) line start p (subst (λ (ls : List (List ℕ)). Reaches came ls start p) more r) in
           (are_next p).1 (back.0, (led back.0).1 back.1, back.2),
     )
 
@@ -106,23 +106,12 @@ greatest_all places i greatest greater within all e k d h =
           omega (arith, e, is)
     ]
 
--- a text stands at a place
-pub at_place : (came : List (List ℕ)) (place : ℕ) (text : List ℕ) → is_at came place text ≡ true → slice_get came place ≡ Some text
-at_place came place text h = by_found (slice_get came place) h
-  where
-    by_found : (o : Option (List ℕ)) → is_text o text ≡ true → o ≡ Some text
-    by_found (Some line) h = ap Some ((bytes_eq-Decides line text).0 h)
-    by_found None h = absurd (search rules)
-
-pub place_at : (came : List (List ℕ)) (place : ℕ) (text : List ℕ) → slice_get came place ≡ Some text → is_at came place text ≡ true
-place_at came place text e = ap (λ (o : Option (List ℕ)). is_text o text) e ∙ (bytes_eq-Decides text text).1 refl
-
 -- what stands behind a place
-pub behind_at : (came : List (List ℕ)) (text : List ℕ) (from to : ℕ) → behind came text from ≡ Some to → (slice_get came from ≡ Some text) × (to ≡ from + 1)
+pub behind_at : (came : List Said) (text : List ℕ) (from to : ℕ) → behind came text from ≡ Some to → (is_at came from text ≡ true) × (to ≡ from + 1)
 behind_at came text from to h = by_test (is_at came from text) refl h
   where
-    by_test : (b : Bool) → is_at came from text ≡ b → (if b then Some (from + 1) else None) ≡ Some to → (slice_get came from ≡ Some text) × (to ≡ from + 1)
-    by_test true at e = (at_place came from text at, search (rules, e))
+    by_test : (b : Bool) → is_at came from text ≡ b → (if b then Some (from + 1) else None) ≡ Some to → (is_at came from text ≡ true) × (to ≡ from + 1)
+    by_test true at e = (at, search (rules, e))
     by_test false at e = absurd (search (rules, e))
 
 -- what a filter gives of a list
@@ -152,7 +141,7 @@ some_given f (w ∷ xs) x y h given = elim (Contains-append_cases (w ∷ []) xs 
     by_first None h = h
 
 -- To these places lead: one that expects a line, one that expects any, one that expects nothing.
-pub text_next : (came : List (List ℕ)) (text : List ℕ) (places found : List ℕ) → is_any text ≡ false → found ≡ filter_map (behind came text) places → AreNext came (Some text) places found
+pub text_next : (came : List Said) (text : List ℕ) (places found : List ℕ) → is_any text ≡ false → found ≡ filter_map (behind came text) places → AreNext came (Some text) places found
 text_next came text places found is e to = (
   λ h.
       let given = gives_some (behind came text) places to (subst (λ (xs : List ℕ). Contains xs to) e h) in
@@ -164,9 +153,9 @@ text_next came text places found is e to = (
     by_takes : (from : ℕ) → Contains places from → Takes came (Some text) from to → Contains (filter_map (behind came text) places) to
     by_takes from one (inl (any, _, _)) = absurd (search (rules, any, is))
     by_takes from one (inr (_, at, next)) =
-        some_given (behind came text) places from to one (rw (place_at came from text at) (ap Some (sym next)))
+        some_given (behind came text) places from to one (rw at (ap Some (sym next)))
 
-pub any_next : (came : List (List ℕ)) (text : List ℕ) (places found : List ℕ) (first : ℕ) → is_any text ≡ true → Contains places first
+pub any_next : (came : List Said) (text : List ℕ) (places found : List ℕ) (first : ℕ) → is_any text ≡ true → Contains places first
     → ((k d : ℕ) → k < length places → first ≤ get_or places k d) → ((p : ℕ) → Contains found p ↔ ((first ≤ p) × (p ≤ length came))) → AreNext came (Some text) places found
 any_next came text places found first is one least all to = (
   λ h. let within = (all to).0 h in (first, one, inl (is, within.0, within.1)),
@@ -201,19 +190,19 @@ range_all xs first start place count e low high all p = (
 )
 
 -- the same of what is found, unless memory is refused
-pub if_text : {T E : Type 0} (items : T → List ℕ) (r : Result T E) (came : List (List ℕ)) (text : List ℕ) (places : List ℕ) → is_any text ≡ false
+pub if_text : {T E : Type 0} (items : T → List ℕ) (r : Result T E) (came : List Said) (text : List ℕ) (places : List ℕ) → is_any text ≡ false
     → IfOk r (λ found. items found ≡ filter_map (behind came text) places) → IfOk r (λ found. AreNext came (Some text) places (items found))
 if_text items (Ok found) came text places is e = text_next came text places (items found) is e
 if_text items (Err fault) came text places is e = e
 
-pub if_any : {T E : Type 0} (items : T → List ℕ) (r : Result T E) (came : List (List ℕ)) (text : List ℕ) (places : List ℕ) (first : ℕ) → is_any text ≡ true
+pub if_any : {T E : Type 0} (items : T → List ℕ) (r : Result T E) (came : List Said) (text : List ℕ) (places : List ℕ) (first : ℕ) → is_any text ≡ true
     → Contains places first → ((k d : ℕ) → k < length places → first ≤ get_or places k d)
     → IfOk r (λ found. (p : ℕ) → Contains (items found) p ↔ ((first ≤ p) × (p ≤ length came))) → IfOk r (λ found. AreNext came (Some text) places (items found))
 if_any items (Ok found) came text places first is one least all = any_next came text places (items found) first is one least all
 if_any items (Err fault) came text places first is one least all = all
 
 -- some lines lead as far as their front does
-pub reaches_front : (came lines : List (List ℕ)) (n from to : ℕ) → Reaches came lines from to → (p : ℕ) × Reaches came (take n lines) from p
+pub reaches_front : (came : List Said) (lines : List (List ℕ)) (n from to : ℕ) → Reaches came lines from to → (p : ℕ) × Reaches came (take n lines) from p
 reaches_front came [] n from to r = (from, subst (λ (ls : List (List ℕ)). Reaches came ls from from) (sym (take-nil n)) refl)
 reaches_front came (line ∷ lines) zero from to r = (from, refl)
 reaches_front came (line ∷ lines) (suc n) from to r =
@@ -221,27 +210,27 @@ reaches_front came (line ∷ lines) (suc n) from to r =
     (more.0, (r.0, r.1, more.1))
 
 -- where the next line leads nowhere, its front isn't met, nor are all lines
-pub lost : (came lines : List (List ℕ)) (i : ℕ) (line : List ℕ) (places next : List ℕ) → slice_get lines i ≡ Some line
-    → ((p : ℕ) → Contains places p ↔ Reaches came (take i lines) 0 p) → AreNext came (expected_in line) places next → next ≡ []
-    → (to : ℕ) → Reaches came (take (i + 1) lines) 0 to → ⊥
-lost came lines i line places next there led are_next none to r =
-    let h = subst (λ (xs : List ℕ). Contains xs to) none ((next_led came lines i line places next there led are_next to).1 r) in
+pub lost : (came : List Said) (lines : List (List ℕ)) (start : ℕ) (i : ℕ) (line : List ℕ) (places next : List ℕ) → slice_get lines i ≡ Some line
+    → ((p : ℕ) → Contains places p ↔ Reaches came (take i lines) start p) → AreNext came (expected_in line) places next → next ≡ []
+    → (to : ℕ) → Reaches came (take (i + 1) lines) start to → ⊥
+lost came lines start i line places next there led are_next none to r =
+    let h = subst (λ (xs : List ℕ). Contains xs to) none ((next_led came lines start i line places next there led are_next to).1 r) in
     omega (arith, h.1)
 
-pub lost_all : (came lines : List (List ℕ)) (i : ℕ) → ((to : ℕ) → Reaches came (take (i + 1) lines) 0 to → ⊥) → (to : ℕ) → Reaches came lines 0 to → ⊥
-lost_all came lines i none to r = let front = reaches_front came lines (i + 1) 0 to r in none front.0 front.1
+pub lost_all : (came : List Said) (lines : List (List ℕ)) (start : ℕ) (i : ℕ) → ((to : ℕ) → Reaches came (take (i + 1) lines) start to → ⊥) → (to : ℕ) → Reaches came lines start to → ⊥
+lost_all came lines start i none to r = let front = reaches_front came lines (i + 1) start to r in none front.0 front.1
 
 -- none of the places to which lines lead is further behind
-pub none_further : (came lines : List (List ℕ)) (i : ℕ) (places : List ℕ) (furthest : ℕ) → ((p : ℕ) → Contains places p ↔ Reaches came (take i lines) 0 p)
-    → ((k d : ℕ) → k < length places → get_or places k d ≤ furthest) → (to : ℕ) → Reaches came (take i lines) 0 to → to ≤ furthest
-none_further came lines i places furthest led all to r =
+pub none_further : (came : List Said) (lines : List (List ℕ)) (start : ℕ) (i : ℕ) (places : List ℕ) (furthest : ℕ) → ((p : ℕ) → Contains places p ↔ Reaches came (take i lines) start p)
+    → ((k d : ℕ) → k < length places → get_or places k d ≤ furthest) → (to : ℕ) → Reaches came (take i lines) start to → to ≤ furthest
+none_further came lines start i places furthest led all to r =
     let one = (led to).1 r in
     subst (λ (p : ℕ). p ≤ furthest) one.2 (all one.0 to one.1)
 
 -- where no line is left
-pub led_all : (came lines : List (List ℕ)) (i : ℕ) (places : List ℕ) → length lines ≤ i → ((p : ℕ) → Contains places p ↔ Reaches came (take i lines) 0 p)
-    → (p : ℕ) → Contains places p ↔ Reaches came lines 0 p
-led_all came lines i places all led = subst (λ (ls : List (List ℕ)). (p : ℕ) → Contains places p ↔ Reaches came ls 0 p) (take_all i lines all) led
+pub led_all : (came : List Said) (lines : List (List ℕ)) (start : ℕ) (i : ℕ) (places : List ℕ) → length lines ≤ i → ((p : ℕ) → Contains places p ↔ Reaches came (take i lines) start p)
+    → (p : ℕ) → Contains places p ↔ Reaches came lines start p
+led_all came lines start i places all led = subst (λ (ls : List (List ℕ)). (p : ℕ) → Contains places p ↔ Reaches came ls start p) (take_all i lines all) led
 
 -- the places so far, and what one more gives
 pub filter_more : (f : ℕ → Option ℕ) (xs : List ℕ) (i : ℕ) → i < length xs → filter_map f (take (i + 1) xs) ≡ filter_map f (take i xs) ++ filter_map f (get_or xs i 0 ∷ [])
@@ -264,3 +253,27 @@ range_none start place low p = (
   λ (k, l, e). absurd (omega (arith, l)),
   λ (above, below). absurd (omega (arith, low, above, below)),
 )
+
+-- whether one of the lines that came passes a test
+pub any_said : (test : Said → Bool) (came : List CameLine) → list_any (λ (line : CameLine). test (line.text.now, line.words.now)) came ≡ list_any test (said_of came)
+any_said test [] = refl
+any_said test (line ∷ came) = rw (any_said test came) refl
+
+-- behind a line that expects nothing the others say whether the echo is there
+pub echo_next : (lines : List (List ℕ)) (i : ℕ) → i < length lines → expected_in (get_or lines i []) ≡ None → begins_with_echo (drop i lines) ≡ begins_with_echo (drop (suc i) lines)
+echo_next [] i l e = absurd (omega (arith, l))
+echo_next (line ∷ lines) zero l e = ap (λ (o : Option (List ℕ)). echo_or o (begins_with_echo lines)) e
+echo_next (line ∷ lines) (suc i) l e = echo_next lines i (omega (arith, l)) e
+
+-- one that expects something says so itself
+pub echo_here : (lines : List (List ℕ)) (i : ℕ) (text : List ℕ) → i < length lines → expected_in (get_or lines i []) ≡ Some text → begins_with_echo (drop i lines) ≡ is_echo text
+echo_here [] i text l e = absurd (omega (arith, l))
+echo_here (line ∷ lines) zero text l e = ap (λ (o : Option (List ℕ)). echo_or o (begins_with_echo lines)) e
+echo_here (line ∷ lines) (suc i) text l e = echo_here lines i text (omega (arith, l)) e
+
+-- where none is left, none is expected
+pub echo_none : (lines : List (List ℕ)) (i : ℕ) → length lines ≤ i → begins_with_echo (drop i lines) ≡ true
+echo_none [] zero l = refl
+echo_none [] (suc i) l = refl
+echo_none (line ∷ lines) zero l = absurd (omega (arith, l))
+echo_none (line ∷ lines) (suc i) l = echo_none lines i (omega (arith, l))

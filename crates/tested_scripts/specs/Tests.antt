@@ -1,13 +1,19 @@
 -- Which parts of a script are met by what came of them. A text is the list of its bytes. Ours, of no standard.
-use Rattle.std.specs.Prelude.{◌≡◌, ◌⊎◌, ℕ, ◌+◌, ◌-◌, ◌^◌, min, List, [], ◌∷◌, length, take, drop}
-use Rattle.std.specs.List.{before_first}
+use Rattle.std.specs.Prelude.{◌≡◌, ◌⊎◌, ℕ, ◌+◌, ◌-◌, ◌^◌, min, Bool, true, false, List, [], ◌∷◌, length, take, drop, zip, codes, Option, Some, None}
+use Rattle.std.specs.List.{before_first, list_any}
 use Rattle.lab_script.specs.Script.{lines_of}
-use Rattle.tested_scripts.specs.Lines.{is_script_line}
-use Rattle.tested_scripts.specs.Meeting.{AreMet}
+use Rattle.expectations.specs.Comments.{behind}
+use Rattle.tested_scripts.specs.Lines.{is_script_line, says_something}
+use Rattle.tested_scripts.specs.Meeting.{Said, AreMet, begins_with}
+use Rattle.tested_scripts.specs.declared.heard.Came.{Came}
 
 -- the lines of what a run printed: nothing stands behind the last line feed
 abbrev pub printed_lines : List ℕ → List (List ℕ)
 printed_lines text = take (length (lines_of text) - 1) (lines_of text)
+
+-- the lines that came, each with its words
+abbrev pub came_in : Came → List Said
+came_in came = zip (printed_lines came.trace.now) (printed_lines came.words.now)
 
 -- the lines of a script from a place on, up to the next that gives something
 abbrev pub part_at : List (List ℕ) → ℕ → List (List ℕ)
@@ -17,28 +23,52 @@ part_at lines place = before_first is_script_line (drop place lines)
 abbrev pub next_place : List (List ℕ) → ℕ → ℕ
 next_place lines place = min (2 ^ 64 - 1) (place + (length (part_at lines place) + 1))
 
--- from one place to another, each part expects what came of it, a text each
-abbrev pub AreMetFrom : List (List ℕ) → ℕ → List (List ℕ) → ℕ → Type 0
-AreMetFrom lines place [] end = end ≡ place
-AreMetFrom lines place (text ∷ texts) end = AreMet (part_at lines place) (printed_lines text) × AreMetFrom lines (next_place lines place) texts end
+-- a script says something of what comes
+abbrev pub expects_something : List ℕ → Bool
+expects_something script = list_any says_something (lines_of script)
 
--- the last part expects what came of it, with the trace's end or without it
-abbrev pub IsLastMet : List (List ℕ) → List ℕ → List ℕ → Type 0
-IsLastMet part came ended = AreMet part (printed_lines came) ⊎ AreMet part (printed_lines ended)
+-- a line's text says that no line that came begins so, and one does
+abbrev pub is_broken_by : Option (List ℕ) → List Said → Bool
+is_broken_by None came = false
+is_broken_by (Some text) came = list_any (begins_with text) came
+
+-- a line of a script says so of lines that came
+abbrev pub is_broken : List Said → List ℕ → Bool
+is_broken came line = is_broken_by (behind (codes "#! ") line) came
+
+-- No line of a part says that none begins so as one that came does.
+abbrev pub AreKept : List (List ℕ) → List Said → Type 0
+AreKept part came = list_any (is_broken came) part ≡ false
+
+-- What came of a part is what it expects; and so is what the books hold then, or isn't.
+abbrev pub IsPartMet : List (List ℕ) → Came → Bool → Type 0
+IsPartMet part came held = AreMet part (came_in came) × AreKept part (came_in came) × (held ≡ true)
+
+-- the same of the last part, with the trace's end or without it
+abbrev pub IsLastMet : List (List ℕ) → Came → Came → Bool → Type 0
+IsLastMet part came ended held = (AreMet part (came_in came) ⊎ AreMet part (came_in ended)) × AreKept part (came_in came) × (held ≡ true)
+
+-- from a place on all parts are met by what came of them, and the last by what came last
+abbrev pub AllMet : List (List ℕ) → ℕ → List (Came × Bool) → Came → Came → Bool → Type 0
+AllMet lines place [] came ended held = IsLastMet (part_at lines place) came ended held
+AllMet lines place (one ∷ more) came ended held = IsPartMet (part_at lines place) one.0 one.1 × AllMet lines (next_place lines place) more came ended held
+
+-- What came of so many parts of a script, and what came last; whether the books held what was expected of them is told of
+-- each part.
+pub record Heard (script : List ℕ) (count : ℕ) : Type 0 where
+  pub parts : List (Came × Bool)
+  pub each : length parts ≡ count
+  pub came : Came
+  pub ended : Came
+  pub held : Bool
+
+abbrev pub WasMet : (script : List ℕ) (count : ℕ) → Heard script count → Type 0
+WasMet script count h = AllMet (lines_of script) 0 h.parts h.came h.ended h.held
 
 -- so many parts of a script expect what came of them, and the next what came last
-pub record IsMet (script : List ℕ) (count : ℕ) : Type 0 where
-  pub texts : List (List ℕ)
-  pub all : length texts ≡ count
-  pub end : ℕ
-  pub met : AreMetFrom (lines_of script) 0 texts end
-  pub came : List ℕ
-  pub ended : List ℕ
-  pub last : IsLastMet (part_at (lines_of script) end) came ended
+abbrev pub IsMet : List ℕ → ℕ → Type 0
+IsMet script count = (h : Heard script count) × WasMet script count h
 
--- the parts before one expect what came of them, and that one, or the last, doesn't
-pub record IsMissed (script : List ℕ) (count : ℕ) : Type 0 where
-  pub texts : List (List ℕ)
-  pub end : ℕ
-  pub met : AreMetFrom (lines_of script) 0 texts end
-  pub missed : ((text : List ℕ) × (AreMet (part_at (lines_of script) end) (printed_lines text) → ⊥)) ⊎ ((length texts ≡ count) × ((came : List ℕ) × ((ended : List ℕ) × (IsLastMet (part_at (lines_of script) end) came ended → ⊥))))
+-- one of them doesn't
+abbrev pub IsMissed : List ℕ → ℕ → Type 0
+IsMissed script count = (h : Heard script count) × (WasMet script count h → ⊥)

@@ -3,8 +3,18 @@ ghost use Rattle.std.specs.Prelude.{◌≡◌, ◌↔◌, ◌⊎◌, ◌≤◌, 
 ghost use Rattle.tested_scripts.specs.Lines.{texts_of, expected_in, is_any};
 ghost use Rattle.tested_scripts.specs.Meeting as said;
 
-use crate::lines::{expected_in, is_any, is_expectation};
+use crate::lines::{expected_in, is_any, is_expectation, is_input};
+use expectations::is_met_by;
 use std::alloc::{AllocError, Allocator};
+
+/// A line that came.
+#[derive(Clone, Copy, Debug, PartialEq, Eq)]
+pub struct CameLine<'a> {
+    /// The line of the trace.
+    pub text: &'a str,
+    /// The same in words, where it is a message; else nothing.
+    pub words: &'a str,
+}
 
 /// The first difference between the lines of a script that stand behind one that gives something, and the trace lines that
 /// came of that.
@@ -17,25 +27,25 @@ pub struct Difference {
     pub came: usize,
 }
 
-/// Whether a text stands at a place.
-fn is_at(came: &[&str], place: usize, text: &str) -> bool
-    ensures { result ≡ said.is_at (texts_of came.now) place text.now }
+/// Whether the line at a place is one that is expected.
+fn is_at(came: &[CameLine<'_>], place: usize, text: &str) -> bool
+    ensures { result ≡ said.is_at (said.said_of came.now) place text.now }
 {
     match came.get(place) {
-        Some(line) => *line == text,
+        Some(line) => is_met_by(line.text, line.words, text),
         None => false,
     }
 }
 
-/// Appends the place behind another, where a text stands at that.
+/// Appends the place behind another, where the line at that is one that is expected.
 fn push_behind<A: Allocator>(
     found: &mut Vec<usize, A>,
-    came: &[&str],
+    came: &[CameLine<'_>],
     text: &str,
     place: usize,
 ) -> Result<(), AllocError>
     ensures { OnOk result (found.new.items ≡ found.old.items ++
-        filter_map (said.behind (texts_of came.now) text.now) (place ∷ [])) }
+        filter_map (said.behind (said.said_of came.now) text.now) (place ∷ [])) }
 {
     if is_at(came, place, text) {
         found.push(place + 1)?;
@@ -43,15 +53,15 @@ fn push_behind<A: Allocator>(
     Ok(())
 }
 
-/// The places behind those of these places at which a text stands.
+/// The places behind those of these places at which the line is one that is expected.
 fn behind_text<A: Allocator>(
     alloc: A,
     places: &[usize],
-    came: &[&str],
+    came: &[CameLine<'_>],
     text: &str,
 ) -> Result<Vec<usize, A>, AllocError>
     ensures { IfOk result (λ found. found.items ≡
-        filter_map (said.behind (texts_of came.now) text.now) places.now) }
+        filter_map (said.behind (said.said_of came.now) text.now) places.now) }
 {
     let mut found = Vec::new(alloc);
     for place in places {
@@ -77,10 +87,10 @@ fn least(places: &[usize]) -> Option<usize>
 fn places_from<A: Allocator>(
     alloc: A,
     first: usize,
-    came: &[&str],
+    came: &[CameLine<'_>],
 ) -> Result<Vec<usize, A>, AllocError>
     ensures { IfOk result (λ found. (p : ℕ) → Contains found.items p ↔
-        ((first ≤ p) × (p ≤ length (texts_of came.now)))) }
+        ((first ≤ p) × (p ≤ length (said.said_of came.now)))) }
 {
     let mut found = Vec::new(alloc);
     let end = came.len() + 1;
@@ -94,12 +104,12 @@ fn places_from<A: Allocator>(
 fn behind_any<A: Allocator>(
     alloc: A,
     places: &[usize],
-    came: &[&str],
+    came: &[CameLine<'_>],
     text: &str,
 ) -> Result<Vec<usize, A>, AllocError>
     requires { is_any text.now ≡ true }
     ensures { IfOk result (λ found.
-        said.AreNext (texts_of came.now) (Some text.now) places.now found.items) }
+        said.AreNext (said.said_of came.now) (Some text.now) places.now found.items) }
 {
     match least(places) {
         Some(first) => places_from(alloc, first, came),
@@ -111,11 +121,11 @@ fn behind_any<A: Allocator>(
 fn behind_expected<A: Allocator>(
     alloc: A,
     places: &[usize],
-    came: &[&str],
+    came: &[CameLine<'_>],
     text: &str,
 ) -> Result<Vec<usize, A>, AllocError>
     ensures { IfOk result (λ found.
-        said.AreNext (texts_of came.now) (Some text.now) places.now found.items) }
+        said.AreNext (said.said_of came.now) (Some text.now) places.now found.items) }
 {
     if is_any(text) {
         behind_any(alloc, places, came, text)
@@ -128,11 +138,11 @@ fn behind_expected<A: Allocator>(
 fn next_places<A: Allocator>(
     alloc: A,
     places: &[usize],
-    came: &[&str],
+    came: &[CameLine<'_>],
     line: &str,
 ) -> Result<Vec<usize, A>, AllocError>
     ensures { IfOk result (λ found.
-        said.AreNext (texts_of came.now) (expected_in line.now) places.now found.items) }
+        said.AreNext (said.said_of came.now) (expected_in line.now) places.now found.items) }
 {
     match expected_in(line) {
         Some(text) => behind_expected(alloc, places, came, text),
@@ -177,18 +187,40 @@ fn line_at<'a>(lines: &[&'a str], place: usize) -> &'a str
     }
 }
 
+/// Whether the first that lines expect is the echo of the script's line, or may be.
+fn begin_with_echo(lines: &[&str]) -> bool
+    ensures { result ≡ said.begins_with_echo (texts_of lines.now) }
+{
+    for line in lines {
+        if let Some(text) = expected_in(*line) {
+            return is_any(text) || is_input(text);
+        }
+    }
+    true
+}
+
+/// The place from which on the lines that came are expected: behind the echo of the script's line, where that is left out.
+fn first_place(lines: &[&str], came: &[CameLine<'_>]) -> usize
+    ensures { result ≡ said.first_place (texts_of lines.now) (said.said_of came.now) }
+{
+    match came.first() {
+        Some(line) if is_input(line.text) && !begin_with_echo(lines) => 1,
+        _ => 0,
+    }
+}
+
 /// Where trace lines differ first from those that lines of a script expect, if they do.
 fn first_difference<A: Allocator + Copy>(
     alloc: A,
     lines: &[&str],
-    came: &[&str],
+    came: &[CameLine<'_>],
 ) -> Result<Option<Difference>, AllocError>
-    ensures met { IfOk result (λ found. (found ≡ None) ↔ said.Reaches (texts_of came.now) (texts_of lines.now) 0
-        (length (texts_of came.now))) }
-    ensures first { IfOk result (λ found. IfSome found (said.IsFirst (texts_of lines.now) (texts_of came.now))) }
+    ensures met { IfOk result (λ found. (found ≡ None) ↔ said.Reaches (said.said_of came.now) (texts_of lines.now)
+        (said.first_place (texts_of lines.now) (said.said_of came.now)) (length (said.said_of came.now))) }
+    ensures first { IfOk result (λ found. IfSome found (said.IsFirst (texts_of lines.now) (said.said_of came.now))) }
 {
-    let mut places = Vec::from_slice(alloc, &[0])?;
-    let mut furthest = 0;
+    let mut furthest = first_place(lines, came);
+    let mut places = Vec::from_slice(alloc, &[furthest])?;
     for line in 0..lines.len() {
         let next = next_places(alloc, &places, came, line_at(lines, line))?;
         match greatest(&next) {
@@ -226,10 +258,10 @@ fn expect_any(lines: &[&str]) -> bool
 pub fn find_difference<A: Allocator + Copy>(
     alloc: A,
     lines: &[&str],
-    came: &[&str],
+    came: &[CameLine<'_>],
 ) -> Result<Option<Difference>, AllocError>
-    ensures met { IfOk result (λ found. (found ≡ None) ↔ said.AreMet (texts_of lines.now) (texts_of came.now)) }
-    ensures first { IfOk result (λ found. IfSome found (said.IsFirst (texts_of lines.now) (texts_of came.now))) }
+    ensures met { IfOk result (λ found. (found ≡ None) ↔ said.AreMet (texts_of lines.now) (said.said_of came.now)) }
+    ensures first { IfOk result (λ found. IfSome found (said.IsFirst (texts_of lines.now) (said.said_of came.now))) }
 {
     if expect_any(lines) {
         first_difference(alloc, lines, came)
@@ -243,13 +275,13 @@ pub fn find_difference<A: Allocator + Copy>(
 pub fn find_last_difference<A: Allocator + Copy>(
     alloc: A,
     lines: &[&str],
-    came: &[&str],
-    ended: &[&str],
+    came: &[CameLine<'_>],
+    ended: &[CameLine<'_>],
 ) -> Result<Option<Difference>, AllocError>
     ensures met { IfOk result (λ found. (found ≡ None) ↔
-        (said.AreMet (texts_of lines.now) (texts_of came.now)
-        ⊎ said.AreMet (texts_of lines.now) (texts_of ended.now))) }
-    ensures first { IfOk result (λ found. IfSome found (said.IsFirst (texts_of lines.now) (texts_of ended.now))) }
+        (said.AreMet (texts_of lines.now) (said.said_of came.now)
+        ⊎ said.AreMet (texts_of lines.now) (said.said_of ended.now))) }
+    ensures first { IfOk result (λ found. IfSome found (said.IsFirst (texts_of lines.now) (said.said_of ended.now))) }
 {
     match find_difference(alloc, lines, came)? {
         Some(_) => find_difference(alloc, lines, ended),

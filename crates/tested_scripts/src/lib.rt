@@ -2,13 +2,19 @@
 //! (`tested`), and the comments that what a run gives is recorded in (`recorded`).
 #![tactic(auto)]
 
+mod came;
 mod compare;
+mod gathered;
 mod heard;
 mod lines;
+mod misses;
 mod printed;
 pub mod recorded;
 pub mod tested;
 
-pub use compare::{Difference, find_difference, find_last_difference};
+pub use compare::{CameLine, Difference, find_difference, find_last_difference};
 pub use lines::{expected_in, is_any, is_script_line, lines_of, part_end};
-pub use printed::{Miss, TestName, ending_of, print_met, print_miss, print_plan, print_recorded};
+pub use printed::{
+    Miss, TestName, ending_of, print_met, print_miss, print_not_met, print_plan, print_reason,
+    print_recorded,
+};

@@ -1,9 +1,10 @@
 //! What the lines of a script are to a test of it.
-ghost use Rattle.std.specs.Prelude.{◌≡◌, IfOk, option_map};
+ghost use Rattle.std.specs.Prelude.{◌≡◌, IfOk, option_map, is_some};
 ghost use Rattle.std.specs.List.{position_or_len};
 ghost use Rattle.lab_script.specs.Script as script;
 ghost use Rattle.tested_scripts.specs.Lines as said;
 
+use expectations::{held_in, refused_in};
 use lab_script::script::{is_blank, is_comment, without_return};
 use std::alloc::{AllocError, Allocator};
 
@@ -45,6 +46,30 @@ pub(crate) fn is_expectation(line: &str) -> bool
     ensures { result ≡ said.is_expectation line.now }
 {
     line.starts_with("#>")
+}
+
+/// Whether a line says something of what comes: that a line does, that none does, or what the books hold.
+pub(crate) fn says_something(line: &str) -> bool
+    ensures { result ≡ said.says_something line.now }
+{
+    is_expectation(line) || refused_in(line).is_some() || held_in(line).is_some()
+}
+
+/// A line of a trace without the mark of its controller.
+fn without_mark(line: &str) -> &str
+    ensures { result.now ≡ said.without_mark line.now }
+{
+    match line.strip_prefix("1: ") {
+        Some(rest) => rest,
+        None => line.strip_prefix("2: ").unwrap_or(line),
+    }
+}
+
+/// Whether a line of a trace is that of an input.
+pub(crate) fn is_input(line: &str) -> bool
+    ensures { result ≡ said.is_input line.now }
+{
+    without_mark(line).starts_with("in ")
 }
 
 /// Whether what is expected stands for any lines, or none.

@@ -1,6 +1,7 @@
 //! What is printed of tests, which is TAP, and of a record.
 //!
 //! No clause says what is printed: that is shown by tests.
+use crate::compare::CameLine;
 use screen_text::Escaped;
 use std::fmt;
 use std::io::{self, Write};
@@ -31,10 +32,26 @@ pub enum Miss<'a> {
         expected: Option<&'a str>,
         came: Option<&'a str>,
     },
+    /// By a line of the script, counted from 1, no line begins with this text, and this one does.
+    Begins {
+        line: usize,
+        refused: &'a str,
+        came: &'a str,
+    },
+    /// A line of the script, counted from 1, expects that the books hold something else than they do.
+    Holds {
+        line: usize,
+        expected: &'a str,
+        held: &'a str,
+    },
+    /// The script says nothing of what comes.
+    Nothing,
     /// A line of the script, counted from 1, can't be read.
     Unreadable(usize),
     /// The file can't be read.
     NoFile,
+    /// The site that the script names can't be read, or its peer's.
+    NoSite,
 }
 
 /// Prints how many tests there are.
@@ -55,14 +72,20 @@ fn print_side<W: Write>(out: &mut W, side: &str, line: Option<&str>) -> io::Resu
     }
 }
 
-/// Prints that a test isn't met, and why.
-pub fn print_miss<W: Write>(
+/// Prints a line of a test, and two texts that stand against each other.
+fn print_against<W: Write>(
     out: &mut W,
-    number: usize,
-    name: &str,
-    miss: Miss<'_>,
+    line: usize,
+    expected: (&str, &str),
+    came: &str,
 ) -> io::Result<()> {
-    writeln!(out, "not ok {number} - {}", TestName(name))?;
+    writeln!(out, "# line {line}")?;
+    writeln!(out, "# {}: {}", expected.0, Escaped(expected.1))?;
+    writeln!(out, "# came: {}", Escaped(came))
+}
+
+/// Prints why a test isn't met.
+pub fn print_reason<W: Write>(out: &mut W, miss: Miss<'_>) -> io::Result<()> {
     match miss {
         Miss::Differs {
             line,
@@ -73,9 +96,37 @@ pub fn print_miss<W: Write>(
             print_side(out, "expected", expected)?;
             print_side(out, "came", came)
         }
+        Miss::Begins {
+            line,
+            refused,
+            came,
+        } => print_against(out, line, ("expected none that begins with", refused), came),
+        Miss::Holds {
+            line,
+            expected,
+            held,
+        } => print_against(out, line, ("expected", expected), held),
+        Miss::Nothing => writeln!(out, "# nothing is expected"),
         Miss::Unreadable(line) => writeln!(out, "# line {line} can't be read"),
         Miss::NoFile => writeln!(out, "# the file can't be read"),
+        Miss::NoSite => writeln!(out, "# the site can't be read"),
     }
+}
+
+/// Prints that a test isn't met.
+pub fn print_not_met<W: Write>(out: &mut W, number: usize, name: &str) -> io::Result<()> {
+    writeln!(out, "not ok {number} - {}", TestName(name))
+}
+
+/// Prints that a test isn't met, and why.
+pub fn print_miss<W: Write>(
+    out: &mut W,
+    number: usize,
+    name: &str,
+    miss: Miss<'_>,
+) -> io::Result<()> {
+    print_not_met(out, number, name)?;
+    print_reason(out, miss)
 }
 
 /// What ends the lines of a text, by one of them that may have its carriage return.
@@ -83,10 +134,20 @@ pub fn ending_of(line: &str) -> &'static str {
     if line.ends_with('\r') { "\r\n" } else { "\n" }
 }
 
-/// Prints trace lines as the comments that expect them.
-pub fn print_recorded<W: Write>(out: &mut W, came: &[&str], ending: &str) -> io::Result<()> {
+/// Prints lines that came as the comments that expect them: in words or as they stand in the trace.
+pub fn print_recorded<W: Write>(
+    out: &mut W,
+    came: &[CameLine<'_>],
+    in_words: bool,
+    ending: &str,
+) -> io::Result<()> {
     for line in came {
-        write!(out, "#> {line}{ending}")?;
+        let text = if in_words && !line.words.is_empty() {
+            line.words
+        } else {
+            line.text
+        };
+        write!(out, "#> {text}{ending}")?;
     }
     Ok(())
 }

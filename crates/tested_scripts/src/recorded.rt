@@ -6,10 +6,12 @@ ghost use Rattle.lab_runs.specs.Turns.{inputs_in};
 ghost use Rattle.lab_runs.specs.Course.{IsPlayed, Played};
 ghost use Rattle.lab_runs.specs.Sites.{texts_of, views_of};
 
-use crate::heard::{PartListener, run_heard};
-use crate::lines::{expected_in, is_script_line};
+use crate::came::{came_lines, printed_lines};
+use crate::compare::CameLine;
+use crate::heard::{Came, PartListener, run_heard};
+use crate::lines::{expected_in, is_input, is_script_line};
 use crate::printed::{ending_of, print_recorded};
-use crate::tested::printed_lines;
+use expectations::{Recording, held_in, print_expected};
 use lab_runs::listener::Printing;
 use lab_runs::run::{LabFault, Sites, Status, read_sites, refuse_site, script_items};
 use lab_script::script::without_return;
@@ -26,6 +28,7 @@ struct Recorder<'a, W: Write, A: Allocator + Copy> {
     place: usize,
     /// What ends the line that gave something last.
     ending: &'static str,
+    recording: Recording,
 }
 
 /// What stands in a script before, between and behind its line feeds.
@@ -37,11 +40,33 @@ fn whole_lines<A: Allocator>(alloc: A, script: &str) -> Result<Vec<&str, A>, Lab
     Ok(lines)
 }
 
+/// Lines that came without the first, where that is the echo of the script's line, and something else than an input came
+/// behind it.
+fn without_echo<'l, 'a>(came: &'l [CameLine<'a>]) -> &'l [CameLine<'a>] {
+    match came {
+        [first, others @ ..] if is_input(first.text) && begin_otherwise(others) => others,
+        _ => came,
+    }
+}
+
+/// Whether lines that came begin with one that is no input's.
+fn begin_otherwise(came: &[CameLine<'_>]) -> bool {
+    match came.first() {
+        Some(line) => !is_input(line.text),
+        None => false,
+    }
+}
+
 impl<W: Write, A: Allocator + Copy> Recorder<'_, W, A> {
+    /// Whether a line of the script is a comment that a recorded one takes the place of.
+    fn is_replaced(&self, line: &str) -> bool {
+        expected_in(line).is_some() || (self.recording.states && held_in(line).is_some())
+    }
+
     /// Prints a line that gives nothing, the one before the place, unless it expects something. The script's last line has
     /// no line feed behind it.
     fn print_passed(&mut self, line: &str) -> io::Result<()> {
-        if expected_in(without_return(line)).is_some() {
+        if self.is_replaced(without_return(line)) {
             return Ok(());
         }
         write!(self.out, "{line}")?;
@@ -66,26 +91,47 @@ impl<W: Write, A: Allocator + Copy> Recorder<'_, W, A> {
         Ok(())
     }
 
+    /// Prints what came as comments.
+    fn print_lines(&mut self, came: &[CameLine<'_>]) -> io::Result<()> {
+        let Recording { words, states: _ } = self.recording;
+        let came = if words { without_echo(came) } else { came };
+        print_recorded(self.out, came, words, self.ending)
+    }
+
+    /// Prints what the books hold as comments.
+    fn print_held(&mut self, held: &str) -> Result<(), LabFault> {
+        // before the first line of the script nothing is held
+        if self.recording.states && 0 < self.place {
+            let held = printed_lines(self.alloc, held)?;
+            print_expected(self.out, &held, self.ending)?;
+        }
+        Ok(())
+    }
+
     /// Prints what came as comments, and the lines up to and with the next that gives something.
-    fn print_came(&mut self, came: &str) -> Result<(), LabFault> {
-        let came = printed_lines(self.alloc, came)?;
-        print_recorded(self.out, &came, self.ending)?;
+    fn print_came(&mut self, came: Came<'_>) -> Result<(), LabFault> {
+        let lines = came_lines(self.alloc, came.trace, came.words)?;
+        self.print_lines(&lines)?;
+        self.print_held(came.held)?;
         Ok(self.print_part()?)
     }
 }
 
 impl<W: Write, A: Allocator + Copy> PartListener for Recorder<'_, W, A> {
-    // Each run goes on, and is well.
-    ghost Hears = { λ _ _ on _. on ≡ true };
+    // Each run is well.
+    ghost Hears = { λ _ _ _. Unit {0} };
 
     ghost HearsEnd = { λ _ _ _ well. well ≡ true };
 
-    fn hear(&mut self, came: &str) -> Result<bool, LabFault> {
-        self.print_came(came)?;
-        Ok(true)
+    fn wants_held(&self) -> bool {
+        self.recording.states
     }
 
-    fn hear_last(&mut self, _came: &str, ended: &str) -> Result<bool, LabFault> {
+    fn hear(&mut self, came: Came<'_>) -> Result<(), LabFault> {
+        self.print_came(came)
+    }
+
+    fn hear_last(&mut self, _came: Came<'_>, ended: Came<'_>) -> Result<bool, LabFault> {
         self.print_came(ended)?;
         Ok(true)
     }
@@ -96,6 +142,7 @@ fn record_script<A: Allocator + Copy, W: Write>(
     alloc: A,
     sites: Sites<A>,
     script: &str,
+    recording: Recording,
     out: &mut W,
 ) -> Result<Status, LabFault>
     ensures done { result ≡ Ok Status.Done → first_unreadable (is_some sites.peer) script.now ≡ None }
@@ -115,11 +162,12 @@ fn record_script<A: Allocator + Copy, W: Write>(
         lines: &lines,
         place: 0,
         ending: "\n",
+        recording,
     };
     if run_heard(alloc, sites, items, &mut recorder)? {
         Ok(Status::Done)
     } else {
-        // a recorder lets each run go on
+        // a recorder finds each run well
         unreachable!()
     }
 }
@@ -127,7 +175,9 @@ fn record_script<A: Allocator + Copy, W: Write>(
 /// Prints a script with what comes of each of its lines over a site, or over two where a peer's is given, all given as
 /// texts: behind each line that gives something stand the trace lines of that, as comments that expect them, and behind
 /// the last one the trace's end, too. Comments that the script has of what is expected are left out; all else stays, also
-/// how each line ends: the last one gets a line feed, where it has none, if comments follow. The answer is `Done` then.
+/// how each line ends: the last one gets a line feed, where it has none, if comments follow. Where messages are to stand in
+/// words, the echo of the script's line is left out; where what the books hold is to be told, it stands behind the lines, in
+/// place of what the script says of that. The answer is `Done` then.
 /// A site and a script are refused as by a run (`Refused`).
 ///
 /// `scratch` serves while the sites are read, `alloc` for all else. Once memory was refused (`NoMemory`), or `out`
@@ -138,6 +188,7 @@ pub fn record_run<A: Allocator + Copy, W: Write>(
     site: &str,
     peer: Option<&str>,
     script: &str,
+    recording: Recording,
     out: &mut W,
 ) -> Result<Status, LabFault>
     ensures played { result ≡ Ok Status.Done → IsPlayed A site.now (texts_of peer.entry) script.now }
@@ -149,7 +200,7 @@ pub fn record_run<A: Allocator + Copy, W: Write>(
     ensures memory { result ≡ Err LabFault.NoMemory → ¬ IsBlankFile site.now }
 {
     match read_sites(alloc, scratch, site, peer) {
-        Ok(sites) => record_script(alloc, sites, script, out),
+        Ok(sites) => record_script(alloc, sites, script, recording, out),
         Err(fault) => refuse_site::<A, _>(fault, &mut Printing::new(out)),
     }
 }

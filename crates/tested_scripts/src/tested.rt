@@ -1,18 +1,22 @@
 //! Scripts that test themselves: what comes of each line is compared with the comments behind it.
-ghost use Rattle.std.specs.Prelude.{◌≡◌, ◌≢◌, ◌⊎◌, ◌↔◌, Ok, Err, None, IfOk, IsSome, IsSomeAnd, is_some, true, length};
+ghost use Rattle.std.specs.Prelude.{◌≡◌, ◌≢◌, ◌⊎◌, ◌↔◌, Ok, Err, None, Bool, IfOk, OnOk, IsSome, IsSomeAnd, is_some, true, false, length};
+ghost use Rattle.std.specs.List.{list_any};
 ghost use Rattle.cell_table.specs.SiteFile.{described_site, IsBlankFile};
 ghost use Rattle.tested_scripts.specs.Lines as expected;
-ghost use Rattle.tested_scripts.specs.Meeting.{AreMet};
+ghost use Rattle.tested_scripts.specs.Meeting.{AreMet, said_of};
 ghost use Rattle.lab_script.specs.Script.{first_unreadable, items_of};
 ghost use Rattle.lab_runs.specs.Turns.{inputs_in};
 ghost use Rattle.lab_runs.specs.Course.{IsPlayed, Played};
-ghost use Rattle.lab_runs.specs.Sites.{texts_of, views_of};
+ghost use Rattle.lab_runs.specs.Sites.{views_of};
+ghost use Rattle.lab_runs.specs.Sites as sites_said;
 ghost use Rattle.tested_scripts.specs.Tests as said;
 
-use crate::compare::{Difference, find_difference, find_last_difference};
-use crate::heard::{PartListener, run_heard};
-use crate::lines::{expected_in, is_any, lines_of, part_end};
-use crate::printed::{Miss, print_met, print_miss};
+use crate::came::came_lines;
+use crate::compare::{CameLine, Difference, find_difference, find_last_difference};
+use crate::heard::{Came, PartListener, run_heard};
+use crate::lines::{expected_in, is_any, lines_of, part_end, says_something};
+use crate::misses::{expect_held, has_broken, holds_all, print_all_unheld, print_broken};
+use crate::printed::{Miss, print_met, print_miss, print_not_met, print_reason};
 use lab_runs::listener::Printing;
 use lab_runs::run::{LabFault, Sites, Status, read_sites, refuse_site};
 use lab_script::script::{ScriptFault, read_script};
@@ -26,7 +30,8 @@ pub struct Numbered<'a> {
     pub name: &'a str,
 }
 
-/// A test that is running: the lines of its script, and the place of the first that stands behind what came so far.
+/// A test that is running: the lines of its script, the place of the first that stands behind what came so far, and whether
+/// all was met so far.
 #[derive(Drop)]
 struct Tester<'a, W: Write, A: Allocator + Copy> {
     alloc: A,
@@ -34,17 +39,7 @@ struct Tester<'a, W: Write, A: Allocator + Copy> {
     test: Numbered<'a>,
     lines: &'a [&'a str],
     place: usize,
-}
-
-/// The lines of what a run printed.
-pub(crate) fn printed_lines<A: Allocator>(alloc: A, printed: &str) -> Result<Vec<&str, A>, LabFault>
-    ensures { IfOk result (λ lines.
-        expected.texts_of lines.items ≡ said.printed_lines printed.now) }
-{
-    let mut lines = lines_of(alloc, printed)?;
-    // nothing stands behind the last line feed
-    lines.pop();
-    Ok(lines)
+    is_met: bool,
 }
 
 /// The number of the line, counted from 1 over a script, at which lines that stand from a place on differ from what came:
@@ -79,7 +74,11 @@ fn is_any_before(lines: &[&str]) -> bool {
 }
 
 /// The line that came where a part differs: behind `..`, which takes all that came, the last of them.
-fn came_at<'a>(part: &[&str], came: &[&'a str], difference: Difference) -> Option<&'a str> {
+fn came_at<'a>(
+    part: &[&str],
+    came: &[CameLine<'a>],
+    difference: Difference,
+) -> Option<CameLine<'a>> {
     let (before, _) = part.split_at(difference.line.min(part.len()));
     match came.get(difference.came) {
         Some(line) => Some(*line),
@@ -88,64 +87,175 @@ fn came_at<'a>(part: &[&str], came: &[&'a str], difference: Difference) -> Optio
     }
 }
 
+/// Whether a text that is expected is that of a message in words: behind its link, its place and a blank stands a capital
+/// letter.
+fn is_in_words(expected: &str) -> bool {
+    expected
+        .split(' ')
+        .any(|word| word.bytes().next().is_some_and(|first| first.is_ascii_uppercase()))
+}
+
+/// A line that came, as it is shown beside what is expected: in words where that is.
+fn shown<'a>(line: CameLine<'a>, expected: Option<&str>) -> &'a str {
+    match expected {
+        Some(expected) if is_in_words(expected) && !line.words.is_empty() => line.words,
+        _ => line.text,
+    }
+}
+
+/// Prints where a part, which begins behind so many lines of the script, differs from what came of it.
+fn print_difference<W: Write>(
+    out: &mut W,
+    before: usize,
+    part: &[&str],
+    came: &[CameLine<'_>],
+    difference: Difference,
+) -> Result<(), LabFault> {
+    let expected = part
+        .get(difference.line)
+        .and_then(|line| expected_in(*line));
+    let miss = Miss::Differs {
+        line: number_of(part, before, difference),
+        expected,
+        came: came_at(part, came, difference).map(|line| shown(line, expected)),
+    };
+    Ok(print_reason(out, miss)?)
+}
+
 impl<W: Write, A: Allocator + Copy> Tester<'_, W, A> {
-    /// Prints that the script differs from what came of the part at the place.
-    fn miss(&mut self, difference: Difference, came: &[&str]) -> Result<(), LabFault>
-        ensures { self.new.lines.now ≡ self.old.lines.now }
+    /// The script isn't met: that is printed, where it wasn't yet.
+    fn miss(&mut self) -> Result<(), LabFault>
+        ensures lines { self.new.lines.now ≡ self.old.lines.now }
+        ensures place { self.new.place ≡ self.old.place }
+        ensures missed { OnOk result (self.new.is_met ≡ false) }
     {
-        let part = part_at(self.lines, self.place);
-        let miss = Miss::Differs {
-            line: number_of(part, self.place, difference),
-            expected: part
-                .get(difference.line)
-                .and_then(|line| expected_in(*line)),
-            came: came_at(part, came, difference),
-        };
-        Ok(print_miss(self.out, self.test.number, self.test.name, miss)?)
+        if self.is_met {
+            self.is_met = false;
+            print_not_met(self.out, self.test.number, self.test.name)?;
+        }
+        Ok(())
+    }
+
+    /// Prints where a part differs from what came of it, if it does.
+    fn look_at_difference(
+        &mut self,
+        part: &[&str],
+        came: &[CameLine<'_>],
+        difference: Option<Difference>,
+    ) -> Result<(), LabFault>
+        ensures lines { self.new.lines.now ≡ self.old.lines.now }
+        ensures place { self.new.place ≡ self.old.place }
+        ensures met { OnOk result ((self.new.is_met ≡ true) ↔ ((self.old.is_met ≡ true) × (difference ≡ None))) }
+    {
+        match difference {
+            Some(difference) => {
+                self.miss()?;
+                print_difference(self.out, self.place, part, came, difference)
+            }
+            None => Ok(()),
+        }
+    }
+
+    /// Prints which lines of a part say that no line begins so as one that came does.
+    fn look_at_refused(&mut self, part: &[&str], came: &[CameLine<'_>]) -> Result<(), LabFault>
+        ensures lines { self.new.lines.now ≡ self.old.lines.now }
+        ensures place { self.new.place ≡ self.old.place }
+        ensures met { OnOk result ((self.new.is_met ≡ true) ↔ ((self.old.is_met ≡ true)
+            × said.AreKept (expected.texts_of part.now) (said_of came.now))) }
+    {
+        if has_broken(part, came) {
+            self.miss()?;
+            print_broken(self.out, self.place, part, came)?;
+        }
+        Ok(())
+    }
+
+    /// Prints which lines of a part expect something else of the books than they hold.
+    fn look_at_held(&mut self, part: &[&str], held: &str) -> Result<(), LabFault>
+        ensures lines { self.new.lines.now ≡ self.old.lines.now }
+        ensures place { self.new.place ≡ self.old.place }
+        ensures met { OnOk result ((holds : Bool) ×
+            ((self.new.is_met ≡ true) ↔ ((self.old.is_met ≡ true) × (holds ≡ true)))) }
+    {
+        if !holds_all(self.alloc, part, held)? {
+            self.miss()?;
+            print_all_unheld(self.alloc, self.out, self.place, part, held)?;
+        }
+        Ok(())
+    }
+
+    /// Looks whether a part but the last is met by what came of it.
+    fn look_at(&mut self, part: &[&str], came: Came<'_>) -> Result<(), LabFault>
+        ensures lines { self.new.lines.now ≡ self.old.lines.now }
+        ensures place { self.new.place ≡ self.old.place }
+        ensures met { OnOk result ((holds : Bool) ×
+            ((self.new.is_met ≡ true) ↔ ((self.old.is_met ≡ true)
+            × said.IsPartMet (expected.texts_of part.now) came.entry holds))) }
+    {
+        let lines = came_lines(self.alloc, came.trace, came.words)?;
+        let difference = find_difference(self.alloc, part, &lines)?;
+        self.look_at_difference(part, &lines, difference)?;
+        self.look_at_refused(part, &lines)?;
+        self.look_at_held(part, came.held)
+    }
+
+    /// The same of the last part, with the trace's end or without it.
+    fn look_at_last(
+        &mut self,
+        part: &[&str],
+        came: Came<'_>,
+        ended: Came<'_>,
+    ) -> Result<(), LabFault>
+        ensures met { OnOk result ((holds : Bool) ×
+            ((self.new.is_met ≡ true) ↔ ((self.old.is_met ≡ true)
+            × said.IsLastMet (expected.texts_of part.now) came.entry ended.entry holds))) }
+    {
+        let lines = came_lines(self.alloc, came.trace, came.words)?;
+        let all = came_lines(self.alloc, ended.trace, ended.words)?;
+        let difference = find_last_difference(self.alloc, part, &lines, &all)?;
+        self.look_at_difference(part, &all, difference)?;
+        self.look_at_refused(part, &lines)?;
+        self.look_at_held(part, came.held)
     }
 }
 
 impl<W: Write, A: Allocator + Copy> PartListener for Tester<'_, W, A> {
-    // The run goes on just where what came is what the part expects, and the next part is the one behind.
-    ghost Hears = { λ t came on u. let part = said.part_at (expected.texts_of t.lines.now) t.place in
-        ((on ≡ true) ↔ AreMet part (said.printed_lines came)) × (u.lines.now ≡ t.lines.now)
-        × (on ≡ true → u.place ≡ said.next_place (expected.texts_of t.lines.now) t.place) };
-    // It is well just where that is what the part expects, with the trace's end or without it.
-    ghost HearsEnd = { λ t came ended well. let part = said.part_at (expected.texts_of t.lines.now) t.place in
-        (well ≡ true) ↔ (AreMet part (said.printed_lines came)
-        ⊎ AreMet part (said.printed_lines ended)) };
+    // All is met then just where it was before and the part is; the next part is the one behind.
+    ghost Hears = { λ t came u. (holds : Bool) × (
+        (u.lines.now ≡ t.lines.now)
+        × (u.place ≡ said.next_place (expected.texts_of t.lines.now) t.place)
+        × ((u.is_met ≡ true) ↔ ((t.is_met ≡ true) × said.IsPartMet (said.part_at (expected.texts_of t.lines.now) t.place) came holds))) };
+    // All is well just where it was before and the last part is met.
+    ghost HearsEnd = { λ t came ended well. (holds : Bool) ×
+        ((well ≡ true) ↔ ((t.is_met ≡ true) × said.IsLastMet (said.part_at (expected.texts_of t.lines.now) t.place) came ended holds)) };
 
-    fn hear(&mut self, came: &str) -> Result<bool, LabFault> {
-        let came = printed_lines(self.alloc, came)?;
+    fn wants_held(&self) -> bool {
+        expect_held(part_at(self.lines, self.place))
+    }
+
+    fn hear(&mut self, came: Came<'_>) -> Result<(), LabFault> {
         let part = part_at(self.lines, self.place);
         let behind = part.len().saturating_add(1);
-        match find_difference(self.alloc, part, &came)? {
-            Some(difference) => {
-                self.miss(difference, &came)?;
-                Ok(false)
-            }
-            None => {
-                self.place = self.place.saturating_add(behind);
-                Ok(true)
-            }
-        }
+        self.look_at(part, came)?;
+        self.place = self.place.saturating_add(behind);
+        Ok(())
     }
 
-    fn hear_last(&mut self, came: &str, ended: &str) -> Result<bool, LabFault> {
-        let came = printed_lines(self.alloc, came)?;
-        let ended = printed_lines(self.alloc, ended)?;
+    fn hear_last(&mut self, came: Came<'_>, ended: Came<'_>) -> Result<bool, LabFault> {
         let part = part_at(self.lines, self.place);
-        match find_last_difference(self.alloc, part, &came, &ended)? {
-            Some(difference) => {
-                self.miss(difference, &ended)?;
-                Ok(false)
-            }
-            None => {
-                print_met(self.out, self.test.number, self.test.name)?;
-                Ok(true)
-            }
+        self.look_at_last(part, came, ended)?;
+        if self.is_met {
+            print_met(self.out, self.test.number, self.test.name)?;
         }
+        Ok(self.is_met)
     }
+}
+
+/// Whether lines of a script say something of what comes.
+fn say_anything(lines: &[&str]) -> bool
+    ensures { result ≡ list_any expected.says_something (expected.texts_of lines.now) }
+{
+    lines.iter().any(|line| says_something(*line))
 }
 
 /// Tests a script over sites that were read.
@@ -158,10 +268,11 @@ fn test_script<A: Allocator + Copy, W: Write>(
 ) -> Result<Status, LabFault>
     ensures done { result ≡ Ok Status.Done → first_unreadable (is_some sites.peer) script.now ≡ None }
     ensures played { result ≡ Ok Status.Done → Played A (views_of sites) (inputs_in (items_of script.now)) }
+    ensures expects { result ≡ Ok Status.Done → said.expects_something script.now ≡ true }
     ensures met { result ≡ Ok Status.Done →
         said.IsMet script.now (length (items_of {A = A} script.now)) }
-    ensures missed { result ≡ Ok Status.Differs →
-        said.IsMissed script.now (length (items_of {A = A} script.now)) }
+    ensures missed { result ≡ Ok Status.Differs → (said.expects_something script.now ≡ false)
+        ⊎ said.IsMissed script.now (length (items_of {A = A} script.now)) }
     ensures refused { result ≡ Ok Status.Refused →
         IsSome (first_unreadable (is_some sites.peer) script.now) }
 {
@@ -174,12 +285,17 @@ fn test_script<A: Allocator + Copy, W: Write>(
         Err(ScriptFault::NoMemory) => return Err(LabFault::NoMemory),
     };
     let lines = lines_of(alloc, script)?;
+    if !say_anything(&lines) {
+        print_miss(out, test.number, test.name, Miss::Nothing)?;
+        return Ok(Status::Differs);
+    }
     let mut tester = Tester {
         alloc,
         out,
         test,
         lines: &lines,
         place: 0,
+        is_met: true,
     };
     if run_heard(alloc, sites, items, &mut tester)? {
         Ok(Status::Done)
@@ -190,8 +306,9 @@ fn test_script<A: Allocator + Copy, W: Write>(
 
 /// Tests a script over a site, or over two where a peer's is given, all given as texts: runs it, compares what comes of
 /// each of its lines with the comments behind that ([`find_difference`], [`find_last_difference`]), and prints one test
-/// of TAP. Where what came is what the comments expect, the answer is `Done`. Else the first line that differs is
-/// printed, the run ends there, and the answer is `Differs`. A script with a line that can't be read isn't run, and
+/// of TAP. Where what came is what the comments expect, the answer is `Done`. Else it is `Differs`, and of each line of the
+/// script the first line is printed that differs, each that begins as none should, and what the books hold else than is
+/// expected. A script that expects nothing `Differs`, too, and isn't run. A script with a line that can't be read isn't run, and
 /// that line's number is printed; a text that describes no site prints what a run does: both are `Refused`.
 ///
 /// `scratch` serves while the sites are read, `alloc` for all else. Once memory was refused (`NoMemory`), or `out`
@@ -205,17 +322,19 @@ pub fn test_run<A: Allocator + Copy, W: Write>(
     test: Numbered<'_>,
     out: &mut W,
 ) -> Result<Status, LabFault>
-    ensures played { result ≡ Ok Status.Done → IsPlayed A site.now (texts_of peer.entry) script.now }
+    ensures played { result ≡ Ok Status.Done → IsPlayed A site.now (sites_said.texts_of peer.entry) script.now }
 
-    // There are texts, one for each line that gives something, and what stands behind the lines expects them, or doesn't.
+    ensures expects { result ≡ Ok Status.Done → said.expects_something script.now ≡ true }
+
+    // There is what came of each line that gives something, and what stands behind the lines expects that, or doesn't.
     ensures met { result ≡ Ok Status.Done →
         said.IsMet script.now (length (items_of {A = A} script.now)) }
-    ensures missed { result ≡ Ok Status.Differs →
-        said.IsMissed script.now (length (items_of {A = A} script.now)) }
+    ensures missed { result ≡ Ok Status.Differs → (said.expects_something script.now ≡ false)
+        ⊎ said.IsMissed script.now (length (items_of {A = A} script.now)) }
 
     ensures refused { result ≡ Ok Status.Refused →
         (described_site site.now ≡ None)
-        ⊎ IsSomeAnd (texts_of peer.entry) (λ text. described_site text ≡ None)
+        ⊎ IsSomeAnd (sites_said.texts_of peer.entry) (λ text. described_site text ≡ None)
         ⊎ IsSome (first_unreadable (is_some peer.entry) script.now) }
     ensures memory { result ≡ Err LabFault.NoMemory → ¬ IsBlankFile site.now }
 {

@@ -1,6 +1,7 @@
 //! Scripts that test themselves, and that are recorded, where memory is refused or a write fails.
 use super::failing::Failing;
 use super::{SITE, equals_at, holds_at, is_whole_or_cut};
+use expectations::Recording;
 use lab::recorded::record_run;
 use lab::run::{LabFault, Status};
 use lab::tested::{Numbered, test_run};
@@ -28,13 +29,19 @@ abis 0 0 0822010b081234
 #> end channels=1 calls=1 references=0 timers=0
 ";
 
+/// A record of the lines as they stand in the trace.
+const PLAIN: Recording = Recording {
+    words: false,
+    states: false,
+};
+
 /// What the record of the script prints, and how it ends.
 fn recorded<A: Allocator + Copy>(
     alloc: A,
     scratch: Global,
 ) -> Result<(Result<Status, LabFault>, String), Fail> {
     let mut out = Vec::new(scratch);
-    let status = record_run(alloc, scratch, SITE, None, SCRIPT, &mut out);
+    let status = record_run(alloc, scratch, SITE, None, SCRIPT, PLAIN, &mut out);
     Ok((status, String::from_utf8(out)?))
 }
 
@@ -86,7 +93,7 @@ fn each_request_of_a_test_is_refused(rt: HostRuntime) -> Result<(), Fail> {
 fn each_write_of_a_record_fails(rt: HostRuntime) -> Result<(), Fail> {
     for before in 0..1000 {
         let mut out = Failing::after(rt.alloc(), before);
-        let status = record_run(rt.alloc(), rt.alloc(), SITE, None, SCRIPT, &mut out);
+        let status = record_run(rt.alloc(), rt.alloc(), SITE, None, SCRIPT, PLAIN, &mut out);
         if !out.failed {
             holds_at(&rt, 20 < before, (before, "writes"));
             return Ok(());

@@ -4,7 +4,7 @@ use lab_script::script::without_return;
 use std::process::Abort;
 use std::str;
 use tested_scripts::{
-    Difference, Miss, ending_of, expected_in, find_difference, find_last_difference, is_any,
+    CameLine, Difference, Miss, ending_of, expected_in, find_difference, find_last_difference, is_any,
     is_script_line, lines_of, part_end, print_met, print_miss, print_plan, print_recorded,
 };
 
@@ -27,6 +27,18 @@ fn lines_expect(rt: HostRuntime) -> Result<(), Fail> {
     Ok(())
 }
 
+/// Lines that came, none of which is a message.
+fn came_of<'a>(alloc: Global, texts: &[&'a str]) -> Result<Vec<CameLine<'a>>, Fail> {
+    let mut came = Vec::new(alloc);
+    for text in texts {
+        came.push(CameLine {
+            text: *text,
+            words: "",
+        })?;
+    }
+    Ok(came)
+}
+
 /// The place among a script's lines, and the place among those that came.
 type Places = Option<(usize, usize)>;
 
@@ -44,6 +56,11 @@ const DIFFERENCES: &[(&[&str], &[&str], Places)] = &[
     // behind which a line is missing, or comes that isn't the last
     (&["#> ..", "#> d"], &["a", "b", "c"], Some((1, 3))),
     (&["#> ..", "#> a"], &["a", "b", "a", "c"], Some((2, 3))),
+    // the echo may be left out, but no other input
+    (&["#> b"], &["in a", "b"], None),
+    (&["#> b"], &["2: in a", "b"], None),
+    (&["#> in b", "#> c"], &["in a", "in b", "c"], Some((0, 0))),
+    (&["#> c"], &["in a", "in b", "c"], Some((0, 1))),
 ];
 
 /// The places of a difference.
@@ -57,7 +74,8 @@ fn places_of(found: Option<Difference>) -> Places {
 #[test]
 fn lines_that_came_are_compared(rt: HostRuntime) -> Result<(), Fail> {
     for (lines, came, wanted) in DIFFERENCES {
-        let found = places_of(find_difference(rt.alloc(), *lines, *came)?);
+        let all = came_of(rt.alloc(), *came)?;
+        let found = places_of(find_difference(rt.alloc(), *lines, &all)?);
         equals_at(&rt, found, *wanted, (lines, came));
     }
     Ok(())
@@ -73,16 +91,24 @@ const ENDS: &[(&[&str], Places)] = &[
 #[test]
 fn the_end_may_be_expected(rt: HostRuntime) -> Result<(), Fail> {
     for (lines, wanted) in ENDS {
-        let found = find_last_difference(rt.alloc(), *lines, &["a"], &["a", "end 1", "end 2"])?;
+        let came = came_of(rt.alloc(), &["a"])?;
+        let ended = came_of(rt.alloc(), &["a", "end 1", "end 2"])?;
+        let found = find_last_difference(rt.alloc(), *lines, &came, &ended)?;
         equals_at(&rt, places_of(found), *wanted, lines);
     }
     Ok(())
 }
 
+/// A line that came, and is no message.
+fn plain(text: &'static str) -> CameLine<'static> {
+    CameLine { text, words: "" }
+}
+
 /// Whether a comparison over a heap that refuses this request met no refusal.
 fn compares_without(rt: &impl Abort, alloc: Global, n: u64) -> bool {
     let heap = RefusingHeap::refusing_nth(alloc, n);
-    match find_difference(&heap, &["#> a", "#> ..", "#> d"], &["a", "b", "c", "d"]) {
+    let came = [plain("a"), plain("b"), plain("c"), plain("d")];
+    match find_difference(&heap, &["#> a", "#> ..", "#> d"], &came) {
         Ok(found) => equals_at(rt, (found.is_none(), heap.was_refused()), (true, false), n),
         Err(_) => holds_at(rt, heap.was_refused(), n),
     }
@@ -144,8 +170,8 @@ fn tests_are_printed(rt: HostRuntime) -> Result<(), Fail> {
 #[test]
 fn lines_are_recorded(rt: HostRuntime) -> Result<(), Fail> {
     let mut out = Vec::new(rt.alloc());
-    print_recorded(&mut out, &["a", "b"], ending_of("open"))?;
-    print_recorded(&mut out, &["c"], ending_of("open\r"))?;
+    print_recorded(&mut out, &[plain("a"), plain("b")], true, ending_of("open"))?;
+    print_recorded(&mut out, &[plain("c")], false, ending_of("open\r"))?;
     equals(&rt, str::from_utf8(&out)?, "#> a\n#> b\n#> c\r\n");
     Ok(())
 }

@@ -1,14 +1,15 @@
 use Rattle.std.proofs.Common.{◌+◌, ◌<◌, ◌≤◌, ◌↔◌, ℕ, List, Bor, refl, sym, subst, min, length, arith}
 use Rattle.std.specs.List.{Contains}
 use Rattle.std.proofs.lemmas.List.{length-map}
-use Rattle.tested_scripts.specs.Lines.{texts_of}
+use Rattle.tested_scripts.specs.declared.compare.CameLine.{CameLine}
+use Rattle.tested_scripts.specs.Meeting.{said_of}
 use Rattle.tested_scripts.proofs.MeetingLemmas.{range_more, range_all, range_none}
 use Rattle.tested_scripts.proofs.compare.places_from.Goals as goal
 
 pub loop-place-init : goal.loop-place-init
 loop-place-init g c =
-    let count = length-map c.args.came.now (λ (x : Bor (List ℕ)). x.now) in
-    let start = min c.args.first (length (texts_of c.args.came.now) + 1) in
+    let count = length-map c.args.came.now (λ (line : CameLine). (line.text.now, line.words.now)) in
+    let start = min c.args.first (length (said_of c.args.came.now) + 1) in
     let first = c.min-place.result in
     let low : start ≤ first = omega (arith, count, c.min-place.ensures) in
     let high : first ≤ start = omega (arith, count, c.min-place.ensures) in
@@ -19,7 +20,7 @@ loop-place-init g c =
 
 pub loop-place-preserved : goal.loop-place-preserved
 loop-place-preserved g c =
-    let start = min c.args.first (length (texts_of c.args.came.now) + 1) in
+    let start = min c.args.first (length (said_of c.args.came.now) + 1) in
     let place = c.loop-place.place in
     record {
       low = omega (arith, c.loop-place.invariant.low);
@@ -28,8 +29,8 @@ loop-place-preserved g c =
 
 pub returns : goal.returns
 returns g c =
-    let count = length-map c.args.came.now (λ (x : Bor (List ℕ)). x.now) in
-    let total = length (texts_of c.args.came.now) in
+    let count = length-map c.args.came.now (λ (line : CameLine). (line.text.now, line.words.now)) in
+    let total = length (said_of c.args.came.now) in
     let start = min c.args.first (total + 1) in
     let place = c.loop-place.place in
     let low : total + 1 ≤ place = omega (arith, count) in

@@ -6,7 +6,8 @@ use Rattle.lab_script.specs.Script.{is_item_there}
 use Rattle.lab_runs.specs.Turns.{inputs_in}
 use Rattle.lab_runs.specs.Course.{Went, has_peer}
 use Rattle.lab_runs.proofs.CourseFacts.{went_on, stayed, inputs_joined, there_at}
-use Rattle.tested_scripts.proofs.HeardFacts.{heard_none, heard_more, heard_stop, heard_all}
+use Rattle.tested_scripts.specs.Heard.{HasHeard}
+use Rattle.tested_scripts.proofs.HeardFacts.{heard_none, heard_more}
 use Rattle.tested_scripts.proofs.heard.follow_all.Goals as goal
 
 pub loop-item-init : goal.loop-item-init
@@ -16,12 +17,9 @@ pub loop-item-preserved : goal.loop-item-preserved
 loop-item-preserved g c = record {
   can_next = tt;
   is_finite = tt;
-  went = rw (inputs_joined c.loop-item.yielded (c.in-Some.item ∷ [])) (went_on _ _ _ _ _ c.loop-item.invariant.went (c.in_ok-follow_heard.ensures.went c.if-not-branch.false));
-  heard = heard_more g.L.PartListener.Hears c.args.listener.now c.loop-item.yielded c.in-Some.item c.loop-item.listener _ c.follow_heard.new.listener c.loop-item.invariant.heard c.in_ok-follow_heard.ensures.heard c.if-not-branch.false;
+  went = rw (inputs_joined c.loop-item.yielded (c.in-Some.item ∷ [])) (went_on _ _ _ _ _ c.loop-item.invariant.went c.in_ok-follow_heard.ensures.went);
+  heard = heard_more g.L.PartListener.Hears c.args.listener.now c.loop-item.yielded c.in-Some.item c.loop-item.listener c.follow_heard.new.listener c.loop-item.invariant.heard c.in_ok-follow_heard.ensures.heard;
 }
-
-pub returns-then-not-branch-clause-heard : goal.returns-then-not-branch-clause-heard
-returns-then-not-branch-clause-heard g c = heard_stop g.L.PartListener.Hears c.args.listener.now (length c.args.items.items) (length c.loop-item.yielded) c.loop-item.listener _ c.follow_heard.new.listener c.loop-item.invariant.heard c.in_ok-follow_heard.ensures.heard c.if-not-branch.true
 
 pub follow_heard-requires : goal.follow_heard-requires
 follow_heard-requires g c =
@@ -36,6 +34,6 @@ returns g c =
     let given = c.into_iter-item-iterator.ensures.into_iter_gives in
     let all = YieldsList-end (YieldsList-from_vec {s = c.into_iter-item-iterator.result} c.args.items.items given.0 (given.1 ∙ c.args.items.ok.0)) c.loop-item.yielded _ c.loop-item.yielded_by c.next.result c.next.new.self c.in-None.is c.next.ensures.steps in
     record {
-      went = λ _. subst (λ items. Went (inputs_in items) c.args.course.now c.loop-item.course) (sym (map-id c.loop-item.yielded) ∙ all.0) c.loop-item.invariant.went;
-      heard = heard_all g.L.PartListener.Hears c.args.listener.now (length c.args.items.items) (length c.loop-item.yielded) c.loop-item.listener c.loop-item.invariant.heard (ap length (sym (map-id c.loop-item.yielded) ∙ all.0));
+      went = subst (λ items. Went (inputs_in items) c.args.course.now c.loop-item.course) (sym (map-id c.loop-item.yielded) ∙ all.0) c.loop-item.invariant.went;
+      heard = subst (λ count. HasHeard g.L.PartListener.Hears c.args.listener.now count c.loop-item.listener) (ap length (sym (map-id c.loop-item.yielded) ∙ all.0)) c.loop-item.invariant.heard;
     }

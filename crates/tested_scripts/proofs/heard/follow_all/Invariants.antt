@@ -1,7 +1,7 @@
 use Rattle.std.proofs.Common.{length}
 use Rattle.lab_runs.specs.Turns.{inputs_in}
 use Rattle.lab_runs.specs.Course.{Went}
-use Rattle.tested_scripts.proofs.HeardFacts.{HasHeard}
+use Rattle.tested_scripts.specs.Heard.{HasHeard}
 use Rattle.tested_scripts.proofs.heard.follow_all.Given as goal
 
 -- the lines so far were followed, and what came before each was heard

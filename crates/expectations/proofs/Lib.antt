@@ -1,0 +1,2 @@
+-- facts of numbers of words
+pub mod WordLemmas

@@ -1,0 +1,26 @@
+-- The words of a text. A text is the list of its bytes. Ours, of no standard.
+use Rattle.std.specs.Prelude.{ℕ, ◌==◌, ◌&&◌, Bool, not, List, length, zip, bytes_eq}
+use Rattle.std.specs.List.{slice_split, list_any, list_all, take_while}
+
+-- one blank stands between any two
+abbrev pub words_of : List ℕ → List (List ℕ)
+words_of text = slice_split (λ b. b == 32) text
+
+-- key=value
+abbrev pub is_field : List ℕ → Bool
+is_field word = list_any (λ b. b == 61) word
+
+abbrev pub has_word : List (List ℕ) → List ℕ → Bool
+has_word words word = list_any (λ other. bytes_eq other word) words
+
+-- all of these are among those
+abbrev pub has_all : List (List ℕ) → List (List ℕ) → Bool
+has_all words others = list_all (has_word words) others
+
+-- the words before the first field
+abbrev pub name_of : List (List ℕ) → List (List ℕ)
+name_of words = take_while (λ word. not (is_field word)) words
+
+-- the same words, in their order
+abbrev pub are_same : List (List ℕ) → List (List ℕ) → Bool
+are_same words others = (length words == length others) && list_all (λ two. bytes_eq two.0 two.1) (zip words others)

@@ -1,0 +1,318 @@
+//! What books hold, as answers to what is expected of them.
+//!
+//! The answers are worked out of the lines `state ..` that `--state` prints. No clause says how: that is shown by tests.
+ghost use Rattle.std.specs.Prelude.{◌≡◌};
+ghost use Rattle.expectations.specs.Held as said;
+
+use crate::slots::{Slot, Use};
+use crate::words::{has_word, has_words_of, word_count};
+use std::alloc::{AllocError, Allocator};
+use std::fmt;
+use std::io::{self, Write};
+
+/// What is asked of the books, by the first words of what is expected.
+#[derive(Clone, Copy, Debug, PartialEq, Eq)]
+enum Question<'a> {
+    /// `trx CELL/TRX`: its timeslots, by their symbols.
+    Trx(&'a str),
+    /// `channels`: those that are in use.
+    Channels,
+    /// `call CALL`: its serving channel and its attempt.
+    Call(&'a str),
+    /// `calls`: how many there are.
+    Calls,
+    /// `references`: how many there are.
+    References,
+}
+
+/// A text without the mark of a controller that may begin it, and the mark.
+fn cut_mark(text: &str) -> (&'static str, &str) {
+    match text.strip_prefix("1: ") {
+        Some(rest) => ("1: ", rest),
+        None => match text.strip_prefix("2: ") {
+            Some(rest) => ("2: ", rest),
+            None => ("", text),
+        },
+    }
+}
+
+/// The first word of a text.
+fn first_word(text: &str) -> &str {
+    match text.split_once(' ') {
+        Some((word, _)) => word,
+        None => text,
+    }
+}
+
+/// What is asked by a text without its mark; nothing where its words ask for nothing.
+fn question_of(text: &str) -> Option<Question<'_>> {
+    if let Some(rest) = text.strip_prefix("trx ") {
+        return Some(Question::Trx(first_word(rest)));
+    }
+    if let Some(rest) = text.strip_prefix("call ") {
+        return Some(Question::Call(first_word(rest)));
+    }
+    match first_word(text) {
+        "channels" => Some(Question::Channels),
+        "calls" => Some(Question::Calls),
+        "references" => Some(Question::References),
+        _ => None,
+    }
+}
+
+/// What stands behind the mark and these words of a line of what a book holds.
+fn behind<'a>(line: &'a str, mark: &str, words: &str) -> Option<&'a str> {
+    line.strip_prefix(mark)?.strip_prefix(words)
+}
+
+/// The channel of a line, and whether it is on, where the line is one of a channel.
+fn channel_in<'a>(line: &'a str, mark: &str) -> Option<(&'a str, bool)> {
+    let text = behind(line, mark, "state channel ")?;
+    let (channel, state) = text.split_once(' ')?;
+    Some((channel, first_word(state) == "on"))
+}
+
+/// A timeslot with what a line says of one of its channels, behind its number.
+fn with_use(slot: Slot, half: &str, used: Use) -> Slot {
+    match half {
+        "" => Slot { full: used, ..slot },
+        "/0" => Slot {
+            half0: used,
+            ..slot
+        },
+        "/1" => Slot {
+            half1: used,
+            ..slot
+        },
+        _ => slot,
+    }
+}
+
+/// What stands behind a channel's TRX and timeslot, where it is of these.
+fn half_of<'a>(channel: &'a str, trx: &str, tn: &str) -> Option<&'a str> {
+    channel
+        .strip_prefix(trx)?
+        .strip_prefix("/")?
+        .strip_prefix(tn)
+}
+
+/// What a TRX's timeslot is used for.
+fn slot_of(lines: &[&str], mark: &str, trx: &str, tn: &str) -> Slot {
+    let mut slot = Slot::FREE;
+    for line in lines {
+        if let Some((channel, is_on)) = channel_in(*line, mark)
+            && let Some(half) = half_of(channel, trx, tn)
+        {
+            slot = with_use(slot, half, if is_on { Use::On } else { Use::Other });
+        }
+    }
+    slot
+}
+
+/// The numbers of the timeslots of a TRX.
+const TIMESLOTS: [&str; 8] = ["0", "1", "2", "3", "4", "5", "6", "7"];
+
+/// What a controller's book holds, as the answer to a question.
+#[derive(Clone, Copy)]
+struct Answer<'a> {
+    question: Question<'a>,
+    mark: &'static str,
+    lines: &'a [&'a str],
+}
+
+/// Prints the symbols of a TRX's timeslots.
+fn print_slots<W: fmt::Write>(
+    f: &mut fmt::Formatter<W>,
+    lines: &[&str],
+    mark: &str,
+    trx: &str,
+) -> fmt::Result {
+    for tn in TIMESLOTS {
+        write!(f, " {}", slot_of(lines, mark, trx, tn).symbol())?;
+    }
+    Ok(())
+}
+
+/// Prints the channels that are in use.
+fn print_channels<W: fmt::Write>(
+    f: &mut fmt::Formatter<W>,
+    lines: &[&str],
+    mark: &str,
+) -> fmt::Result {
+    for line in lines {
+        if let Some((channel, _)) = channel_in(*line, mark) {
+            write!(f, " {channel}")?;
+        }
+    }
+    Ok(())
+}
+
+/// What a line says of a call behind its number: its record.
+fn record_in<'a>(line: &'a str, mark: &str, call: &str) -> Option<&'a str> {
+    behind(line, mark, "state call ")?
+        .strip_prefix(call)?
+        .strip_prefix(" record ")
+}
+
+/// Prints a call's record: its serving channel without that one's state, and its attempt.
+fn print_record<W: fmt::Write>(f: &mut fmt::Formatter<W>, record: &str) -> fmt::Result {
+    for (place, word) in record.split(' ').enumerate() {
+        // the second word is the serving channel's state
+        if place != 1 {
+            write!(f, " {word}")?;
+        }
+    }
+    Ok(())
+}
+
+/// Prints a call, or that there is none of this number.
+fn print_call<W: fmt::Write>(
+    f: &mut fmt::Formatter<W>,
+    lines: &[&str],
+    mark: &str,
+    call: &str,
+) -> fmt::Result {
+    for line in lines {
+        if let Some(record) = record_in(*line, mark, call) {
+            write!(f, "{mark}call {call}")?;
+            return print_record(f, record);
+        }
+    }
+    write!(f, "{mark}no call {call}")
+}
+
+/// How many lines begin with a mark and these words.
+fn count_of(lines: &[&str], mark: &str, words: &str) -> usize {
+    lines
+        .iter()
+        .filter(|line| behind(**line, mark, words).is_some())
+        .count()
+}
+
+impl fmt::Display for Answer<'_> {
+    fn fmt<W: fmt::Write>(&self, f: &mut fmt::Formatter<W>) -> fmt::Result {
+        let Answer {
+            question,
+            mark,
+            lines,
+        } = *self;
+        match question {
+            Question::Trx(trx) => {
+                write!(f, "{mark}trx {trx}")?;
+                print_slots(f, lines, mark, trx)
+            }
+            Question::Channels => {
+                write!(f, "{mark}channels")?;
+                print_channels(f, lines, mark)
+            }
+            Question::Call(call) => print_call(f, lines, mark, call),
+            Question::Calls => {
+                let count = count_of(lines, mark, "state call ");
+                write!(f, "{mark}calls {count}")
+            }
+            Question::References => {
+                let count = count_of(lines, mark, "state reference ");
+                write!(f, "{mark}references {count}")
+            }
+        }
+    }
+}
+
+/// What the lines of what books hold, as `--state` prints them, answer to what is expected of these, in its form: `trx`,
+/// `channels`, `call`, `calls` or `references` behind a controller's mark. `no such expectation` where it has none of these.
+pub fn answer_to<A: Allocator + Copy>(
+    alloc: A,
+    expected: &str,
+    lines: &[&str],
+) -> Result<String<A>, AllocError> {
+    let (mark, text) = cut_mark(expected);
+    match question_of(text) {
+        Some(question) => format!(in alloc; "{}", Answer { question, mark, lines }),
+        None => String::from_str(alloc, "no such expectation"),
+    }
+}
+
+/// The marks that lines of what books hold may have.
+const MARKS: [&str; 3] = ["", "1: ", "2: "];
+
+/// Whether lines of what books hold are of a controller with this mark.
+fn has_mark(lines: &[&str], mark: &str) -> bool {
+    lines
+        .iter()
+        .any(|line| behind(*line, mark, "state ").is_some())
+}
+
+/// Prints what a controller's book holds as the comments that expect it: its channels, and each call.
+fn print_mark<'a, W: Write>(
+    out: &mut W,
+    lines: &'a [&'a str],
+    mark: &'static str,
+    ending: &str,
+) -> io::Result<()> {
+    let channels = Answer {
+        question: Question::Channels,
+        mark,
+        lines,
+    };
+    write!(out, "#= {channels}{ending}")?;
+    for line in lines {
+        if let Some(rest) = behind(*line, mark, "state call ") {
+            let question = Question::Call(first_word(rest));
+            let call = Answer {
+                question,
+                mark,
+                lines,
+            };
+            write!(out, "#= {call}{ending}")?;
+        }
+    }
+    Ok(())
+}
+
+/// Prints what books hold, by the lines that `--state` prints, as the comments that expect it: of each controller its channels,
+/// and each call.
+pub fn print_expected<'a, W: Write>(
+    out: &mut W,
+    lines: &'a [&'a str],
+    ending: &str,
+) -> io::Result<()> {
+    for mark in MARKS {
+        if has_mark(lines, mark) {
+            print_mark(out, lines, mark, ending)?;
+        }
+    }
+    Ok(())
+}
+
+/// Whether a word meets another, for which `*` stands for any.
+fn is_word_met(word: &str, expected: &str) -> bool
+    ensures { result ≡ said.is_word_met (word.now, expected.now) }
+{
+    expected == "*" || expected == word
+}
+
+/// Whether all words meet those that are expected, in their order.
+fn are_words_met(answer: &str, expected: &str) -> bool
+    ensures { result ≡ said.are_words_met answer.now expected.now }
+{
+    word_count(answer) == word_count(expected)
+        && answer
+            .split(' ')
+            .zip(expected.split(' '))
+            .all(|(word, other)| is_word_met(word, other))
+}
+
+/// Whether the words are the same in any order.
+fn are_same_words(answer: &str, expected: &str) -> bool
+    ensures { result ≡ said.are_same_words answer.now expected.now }
+{
+    has_words_of(answer, expected) && has_words_of(expected, answer)
+}
+
+/// Whether an answer is what is expected: word for word, where `*` stands for any word; of channels in any order.
+pub fn is_answered(answer: &str, expected: &str) -> bool
+    ensures answered { result ≡ said.is_answered answer.now expected.now }
+{
+    are_words_met(answer, expected)
+        || (has_word(expected, "channels") && are_same_words(answer, expected))
+}

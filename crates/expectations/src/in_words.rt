@@ -1,0 +1,35 @@
+//! Messages in words, and whether they are those that are expected.
+ghost use Rattle.std.specs.Prelude.{◌≡◌};
+ghost use Rattle.expectations.specs.InWords as said;
+
+use crate::words::{has_words_of, have_same_name};
+
+/// Whether a message is an expected one: it has the same name, and all fields that are expected.
+fn is_part_met(part: &str, expected: &str) -> bool
+    ensures { result ≡ said.is_part_met part.now expected.now }
+{
+    have_same_name(part, expected) && has_words_of(part, expected)
+}
+
+/// Whether one of the parts of a line in words is an expected one.
+fn has_part(line: &str, expected: &str) -> bool
+    ensures { result ≡ said.has_part line.now expected.now }
+{
+    line.split(';').any(|part| is_part_met(part, expected))
+}
+
+/// Whether a line in words is one that is expected: a message, what is said of it, and the message inside are its parts, which
+/// `;` ends but the last. Each part that is expected is one of these, with all the fields that are expected of it.
+pub fn are_in_words(line: &str, expected: &str) -> bool
+    ensures met { result ≡ said.are_in_words line.now expected.now }
+{
+    expected.split(';').all(|part| has_part(line, part))
+}
+
+/// Whether a line that came is one that is expected: it is that text; or it is a message that is so in words. Where it is no
+/// message it has no words.
+pub fn is_met_by(line: &str, words: &str, expected: &str) -> bool
+    ensures met { result ≡ said.is_met_by line.now words.now expected.now }
+{
+    line == expected || (!words.is_empty() && are_in_words(words, expected))
+}

@@ -1,0 +1,13 @@
+//! What the comments of a script say of what comes of its lines, and whether that is met: by lines that came (`comments`), by
+//! messages in words (`in_words`), and by what books hold (`held`, `slots`).
+#![tactic(auto)]
+
+mod comments;
+mod held;
+mod in_words;
+mod slots;
+mod words;
+
+pub use comments::{Recording, held_in, is_slipped, peer_in, refused_in, site_in};
+pub use held::{answer_to, is_answered, print_expected};
+pub use in_words::{are_in_words, is_met_by};

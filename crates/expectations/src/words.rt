@@ -1,0 +1,50 @@
+//! The words of a text: one blank stands between any two.
+ghost use Rattle.std.specs.Prelude.{◌≡◌, length};
+ghost use Rattle.expectations.specs.Words as said;
+
+/// Whether a word is a field: `key=value`.
+fn is_field(word: &str) -> bool
+    ensures { result ≡ said.is_field word.now }
+{
+    word.bytes().any(|byte| byte == b'=')
+}
+
+/// Whether a text has a word.
+pub(crate) fn has_word(text: &str, word: &str) -> bool
+    ensures { result ≡ said.has_word (said.words_of text.now) word.now }
+{
+    text.split(' ').any(|other| other == word)
+}
+
+/// Whether a text has all words of another.
+pub(crate) fn has_words_of(text: &str, other: &str) -> bool
+    ensures { result ≡ said.has_all (said.words_of text.now) (said.words_of other.now) }
+{
+    other.split(' ').all(|word| has_word(text, word))
+}
+
+/// How many words a text has.
+pub(crate) fn word_count(text: &str) -> usize
+    ensures { result ≡ length (said.words_of text.now) }
+{
+    text.split(' ').count()
+}
+
+/// How many words stand before the first field of a text.
+fn name_length(text: &str) -> usize
+    ensures { result ≡ length (said.name_of (said.words_of text.now)) }
+{
+    text.split(' ').take_while(|word| !is_field(*word)).count()
+}
+
+/// Whether the words before the first field are the same in two texts.
+pub(crate) fn have_same_name(one: &str, other: &str) -> bool
+    ensures { result ≡ said.are_same (said.name_of (said.words_of one.now)) (said.name_of (said.words_of other.now)) }
+{
+    name_length(one) == name_length(other)
+        && one
+            .split(' ')
+            .take_while(|word| !is_field(*word))
+            .zip(other.split(' ').take_while(|word| !is_field(*word)))
+            .all(|(word, another)| word == another)
+}

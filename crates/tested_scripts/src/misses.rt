@@ -1,0 +1,150 @@
+//! Which lines of a part of a script aren't met, beside those that expect lines one by one.
+ghost use Rattle.std.specs.Prelude.{◌≡◌};
+ghost use Rattle.std.specs.List.{list_any};
+ghost use Rattle.tested_scripts.specs.Lines.{texts_of};
+ghost use Rattle.tested_scripts.specs.Meeting.{said_of};
+ghost use Rattle.tested_scripts.specs.Meeting as said;
+ghost use Rattle.tested_scripts.specs.Tests as tests;
+
+use crate::came::printed_lines;
+use crate::compare::CameLine;
+use crate::printed::{Miss, print_reason};
+use expectations::{answer_to, held_in, is_answered, refused_in};
+use lab_runs::run::LabFault;
+use std::alloc::Allocator;
+use std::io::Write;
+
+/// Whether a line that came begins with a text, by itself or in words.
+fn begins_with(line: &CameLine<'_>, text: &str) -> bool
+    ensures { result ≡ said.begins_with text.now (line.now.text.now, line.now.words.now) }
+{
+    line.text.starts_with(text) || line.words.starts_with(text)
+}
+
+/// Whether one of the lines that came begins with a text.
+fn is_begun(came: &[CameLine<'_>], text: &str) -> bool
+    ensures { result ≡ list_any (said.begins_with text.now) (said_of came.now) }
+{
+    came.iter().any(|line| begins_with(line, text))
+}
+
+/// Whether a line of a script says that no line begins so as one that came does.
+fn is_broken(line: &str, came: &[CameLine<'_>]) -> bool
+    ensures { result ≡ tests.is_broken (said_of came.now) line.now }
+{
+    match refused_in(line) {
+        Some(text) => is_begun(came, text),
+        None => false,
+    }
+}
+
+/// Whether one of the lines of a script says so.
+pub(crate) fn has_broken(part: &[&str], came: &[CameLine<'_>]) -> bool
+    ensures { result ≡ list_any (tests.is_broken (said_of came.now)) (texts_of part.now) }
+{
+    part.iter().any(|line| is_broken(*line, came))
+}
+
+/// Prints each line of a part that says so, with the first line that begins so. The part begins behind so many lines of the
+/// script.
+pub(crate) fn print_broken<W: Write>(
+    out: &mut W,
+    before: usize,
+    part: &[&str],
+    came: &[CameLine<'_>],
+) -> Result<(), LabFault> {
+    let mut number = before;
+    for line in part {
+        number = number.saturating_add(1);
+        if let Some(refused) = refused_in(*line)
+            && let Some(found) = came.iter().find(|found| begins_with(*found, refused))
+        {
+            let came = found.text;
+            print_reason(
+                out,
+                Miss::Begins {
+                    line: number,
+                    refused,
+                    came,
+                },
+            )?;
+        }
+    }
+    Ok(())
+}
+
+/// Whether lines of a part expect something of the books.
+pub(crate) fn expect_held(part: &[&str]) -> bool {
+    part.iter().any(|line| held_in(*line).is_some())
+}
+
+/// What the books hold where a line expects something else of them; these are the lines of what they hold.
+fn unheld<A: Allocator + Copy>(
+    alloc: A,
+    line: &str,
+    held: &[&str],
+) -> Result<Option<String<A>>, LabFault> {
+    let Some(expected) = held_in(line) else {
+        return Ok(None);
+    };
+    let answer = answer_to(alloc, expected, held)?;
+    if is_answered(&answer, expected) {
+        Ok(None)
+    } else {
+        Ok(Some(answer))
+    }
+}
+
+/// Whether the books hold what the lines of a part expect.
+pub(crate) fn holds_all<A: Allocator + Copy>(
+    alloc: A,
+    part: &[&str],
+    held: &str,
+) -> Result<bool, LabFault> {
+    if !expect_held(part) {
+        return Ok(true);
+    }
+    let held = printed_lines(alloc, held)?;
+    for line in part {
+        if unheld(alloc, *line, &held)?.is_some() {
+            return Ok(false);
+        }
+    }
+    Ok(true)
+}
+
+/// Prints what a line expects of the books where they hold something else.
+fn print_unheld<A: Allocator + Copy, W: Write>(
+    alloc: A,
+    out: &mut W,
+    number: usize,
+    line: &str,
+    held: &[&str],
+) -> Result<(), LabFault> {
+    let Some(answer) = unheld(alloc, line, held)? else {
+        return Ok(());
+    };
+    let miss = Miss::Holds {
+        line: number,
+        expected: held_in(line).unwrap_or(""),
+        held: &answer,
+    };
+    Ok(print_reason(out, miss)?)
+}
+
+/// Prints each line of a part that expects something else of the books than they hold.
+pub(crate) fn print_all_unheld<A: Allocator + Copy, W: Write>(
+    alloc: A,
+    out: &mut W,
+    before: usize,
+    part: &[&str],
+    held: &str,
+) -> Result<(), LabFault> {
+    let held = printed_lines(alloc, held)?;
+    let mut number = before;
+    for line in part {
+        number = number.saturating_add(1);
+        print_unheld(alloc, out, number, *line, &held)?;
+    }
+    Ok(())
+}
