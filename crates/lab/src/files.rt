@@ -5,6 +5,7 @@ ghost use Rattle.std.specs.Str.Lossy.{utf8_valid_len};
 ghost use Rattle.lab.specs.Files.{longest_file};
 
 use crate::run_reason::{say_cut_script, say_refusal};
+use crate::script_notes::say_idle_settings;
 use crate::site_files::{SitePaths, SiteTexts, site_texts};
 use crate::view_paths::{named_twice, refuse_twice};
 use audits::viewed::{AskedRun, audit_viewed};
@@ -227,7 +228,8 @@ fn run_plain<W: Write>(alloc: Global, texts: &RunTexts, out: &mut W) -> Result<S
     lab_run(alloc, alloc, sites.first(), sites.peer(), script, out)
 }
 
-/// Says why the script of files that were read was refused, where it was; nothing where it was run.
+/// Says why the script of files that were read was refused, where it was; where it was run, which of its settings came to
+/// nothing.
 fn say_ended<E: Write>(
     alloc: Global,
     paths: SitePaths<'_>,
@@ -236,8 +238,11 @@ fn say_ended<E: Write>(
     status: Status,
     errors: &mut E,
 ) -> Result<Status, LabFault> {
+    let RunTexts { sites, script } = texts;
     if status == Status::Refused {
-        say_refusal(alloc, paths, &texts.sites, path, &texts.script, errors)?;
+        say_refusal(alloc, paths, sites, path, script, errors)?;
+    } else {
+        say_idle_settings(alloc, path, sites, script, errors)?;
     }
     Ok(status)
 }

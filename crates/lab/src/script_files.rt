@@ -1,7 +1,7 @@
 //! Tests and records of scripts in files.
 use crate::files::text_of;
 use crate::run_reason::{say_cut_script, say_line, say_refusal};
-use crate::script_notes::{say_bare_returns, say_slipped};
+use crate::script_notes::{say_bare_returns, say_idle_settings, say_slipped};
 use crate::script_sites::{ScriptSites, fault_of, sites_of_script};
 use crate::site_files::{SitePaths, SiteTexts, say_reasons, site_texts};
 use expectations::Recording;
@@ -41,6 +41,10 @@ fn test_over<W: Write, E: Write>(
     out: &mut W,
     errors: &mut E,
 ) -> Result<Status, LabFault> {
+    if let Some(line) = say_idle_settings(alloc, test.name, sites, script, errors)? {
+        print_miss(out, test.number, test.name, Miss::Idle(line))?;
+        return Ok(Status::Differs);
+    }
     let peer = sites.peer();
     let status = test_run(alloc, alloc, sites.first(), peer, script, test, out)?;
     if status == Status::Refused {

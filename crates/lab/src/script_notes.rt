@@ -1,11 +1,16 @@
-//! What is said of a script beside what comes of it: comments that look like slipped ones, and carriage returns.
+//! What is said of a script beside what comes of it: comments that look like slipped ones, carriage returns, and settings
+//! that come to nothing.
 //!
 //! No clause says what the lines hold: that is shown by tests.
+use crate::site_files::SiteTexts;
+use cell_table::SiteFault;
 use expectations::is_slipped;
-use lab_runs::run::LabFault;
+use idle_settings::{Idle, idle_settings};
+use lab_runs::run::{LabFault, Sites, read_sites};
 use lab_script::script::without_return;
 use screen_text::Escaped;
-use std::io::Write;
+use std::alloc::Global;
+use std::io::{self, Write};
 
 /// Says which comments of a script look as if they expected something, but for a blank.
 pub(crate) fn say_slipped<E: Write>(
@@ -43,4 +48,46 @@ pub(crate) fn say_bare_returns<E: Write>(
         }
     }
     Ok(())
+}
+
+/// Says why a setting of a script comes to nothing.
+fn say_idle<E: Write>(path: &str, idle: Idle, errors: &mut E) -> io::Result<()> {
+    let Idle {
+        line,
+        chan,
+        is_there,
+    } = idle;
+    let path = Escaped(path);
+    if is_there {
+        writeln!(errors, "{path}:{line}: never used: nothing comes of it on {chan}")
+    } else {
+        writeln!(errors, "{path}:{line}: the site has no channel {chan}")
+    }
+}
+
+/// The sites of texts; nothing where one describes none.
+fn sites_of(alloc: Global, texts: &SiteTexts) -> Result<Option<Sites>, LabFault> {
+    match read_sites(alloc, alloc, texts.first(), texts.peer()) {
+        Ok(sites) => Ok(Some(sites)),
+        Err(SiteFault::NoMemory) => Err(LabFault::NoMemory),
+        Err(_) => Ok(None),
+    }
+}
+
+/// Says which settings of a script come to nothing; answers the number of the first one's line, if there is one.
+pub(crate) fn say_idle_settings<E: Write>(
+    alloc: Global,
+    path: &str,
+    texts: &SiteTexts,
+    script: &str,
+    errors: &mut E,
+) -> Result<Option<usize>, LabFault> {
+    let (Some(sites), Some(for_run)) = (sites_of(alloc, texts)?, sites_of(alloc, texts)?) else {
+        return Ok(None);
+    };
+    let idle = idle_settings(alloc, &sites, for_run, script)?;
+    for setting in &idle {
+        say_idle(path, *setting, errors)?;
+    }
+    Ok(idle.first().map(|first| first.line))
 }

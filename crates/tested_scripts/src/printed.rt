@@ -46,6 +46,8 @@ pub enum Miss<'a> {
     },
     /// The script says nothing of what comes.
     Nothing,
+    /// A line of the script, counted from 1, asks something of a station or a mobile that comes to nothing.
+    Idle(usize),
     /// A line of the script, counted from 1, can't be read.
     Unreadable(usize),
     /// The file can't be read.
@@ -107,6 +109,7 @@ pub fn print_reason<W: Write>(out: &mut W, miss: Miss<'_>) -> io::Result<()> {
             held,
         } => print_against(out, line, ("expected", expected), held),
         Miss::Nothing => writeln!(out, "# nothing is expected"),
+        Miss::Idle(line) => writeln!(out, "# line {line} comes to nothing"),
         Miss::Unreadable(line) => writeln!(out, "# line {line} can't be read"),
         Miss::NoFile => writeln!(out, "# the file can't be read"),
         Miss::NoSite => writeln!(out, "# the site can't be read"),
