@@ -33,15 +33,18 @@ attempt holds, in line 4, and would have got it.
   $ ./lab audit examples/two_cells.toml undone.trace
   attempts 1
   held -
+  choices -
   same
   $ ./lab audit examples/two_cells.toml awaited.trace
   attempts 0
   held -
+  choices -
   same
   $ ./lab audit examples/two_cells.toml held.trace
   attempts 1
   held 4
-  differs
+  choices -
+  differs: line 4: refused 6 1/1/3; without: done
   [1]
 
 Two calls come to one cell, and call 9 is refused the reference that call 8 has, in line 4. Both attempts are undone, and
@@ -58,6 +61,7 @@ nothing is left of the trace: what remains comes to the same, though a line is h
   $ ./lab audit examples/two_cells.toml both.trace
   attempts 2
   held 4
+  choices -
   same
 
 Attempts that follow one another, and one that is open at the end.
@@ -75,6 +79,7 @@ Attempts that follow one another, and one that is open at the end.
   $ ./lab audit examples/two_cells.toml three.trace
   attempts 2
   held -
+  choices -
   same
 
 A trace without an event, and one that isn't there.
@@ -83,6 +88,7 @@ A trace without an event, and one that isn't there.
   $ ./lab audit examples/two_cells.toml run.trace 2>errors
   attempts 0
   held -
+  choices -
   same
   $ cat errors
   run.trace: no events: is this a trace?
@@ -141,196 +147,242 @@ The traces of the book's tests. In those with attempts of several calls each of 
   $ ./lab audit tests/book/site.toml tests/book/a_call_begins_meanwhile.trace
   attempts 1
   held -
+  choices -
   same
   $ ./lab audit tests/book/site.toml tests/book/a_call_comes.trace
   attempts 1
   held -
+  choices -
   same
   $ ./lab audit tests/book/site.toml tests/book/a_call_leaves.trace
   attempts 0
   held -
+  choices -
   same
   $ ./lab audit tests/book/site.toml tests/book/a_call_leaves_and_is_taken_back.trace
   attempts 4
   held -
+  choices -
   same
   $ ./lab audit tests/book/site.toml tests/book/a_call_moves.trace
   attempts 2
   held -
+  choices -
   same
   $ ./lab audit tests/book/site.toml tests/book/a_reference_is_used_once.trace
   attempts 0
   held -
+  choices -
   same
   $ ./lab audit tests/book/site.toml tests/book/a_refused_activation.trace
   attempts 1
   held -
+  choices -
   same
   $ ./lab audit tests/book/site.toml tests/book/an_answer_after_the_undo.trace
   attempts 1
   held -
+  choices -
   same
   $ ./lab audit tests/book/site.toml tests/book/an_open_attempt_refuses.trace
   attempts 1
   held 7
-  differs
+  choices -
+  differs: line 7: refused 6 1/1/3; without: done
   [1]
   $ ./lab audit tests/book/site.toml tests/book/any_free_channel.trace
   attempts 0
   held -
+  choices -
   same
   $ ./lab audit tests/book/site.toml tests/book/calls_begin_and_end.trace
   attempts 0
   held -
+  choices -
   same
   $ ./lab audit tests/book/site.toml tests/book/each_stage_of_a_call_that_comes.trace
   attempts 9
   held 35
-  differs
+  choices -
+  differs: line 35: refused 6 1/1/3; without: done
   [1]
   $ ./lab audit tests/book/site.toml tests/book/each_stage_of_a_call_that_leaves.trace
   attempts 4
   held -
+  choices -
   same
   $ ./lab audit tests/book/site.toml tests/book/each_stage_of_a_call_that_moves.trace
   attempts 9
   held 37
-  differs
+  choices -
+  differs: line 37: refused 6 1/1/3; without: done
   [1]
   $ ./lab audit tests/book/site.toml tests/book/not_undone_a_completed_one.trace
   attempts 0
   held -
+  choices -
   same
   $ ./lab audit tests/book/site.toml tests/book/not_undone_an_open_one.trace
   attempts 0
   held -
+  choices -
   same
   $ ./lab audit tests/book/site.toml tests/book/not_undone_no_events.trace
   attempts 0
   held -
+  choices -
   same
   $ ./lab audit tests/book/site.toml tests/book/not_undone_what_opens_none.trace
   attempts 1
   held 5
-  differs
+  choices -
+  differs: line 5: refused 6 1/1/3; without: done
   [1]
   $ ./lab audit tests/book/six_channels.toml tests/book/overlap_a_call_begins_between.trace
   attempts 2
   held -
+  choices -
   same
   $ ./lab audit tests/book/six_channels.toml tests/book/overlap_a_call_ends_between.trace
   attempts 2
   held 14
-  differs
+  choices 16
+  differs: line 14: refused 6 2/0/1; without: done
   [1]
   $ ./lab audit tests/book/six_channels.toml tests/book/overlap_a_channel_goes_on.trace
   attempts 1
   held 7
-  differs
+  choices 9
+  differs: line 7: refused 6 1/0/1; without: done
   [1]
   $ ./lab audit tests/book/six_channels.toml tests/book/overlap_a_number_goes_on.trace
   attempts 1
   held 12
-  differs
+  choices 9
+  differs: line 12: refused 6 1/0/1; without: done
   [1]
   $ ./lab audit tests/book/six_channels.toml tests/book/overlap_again_and_again.trace
   attempts 2
   held -
+  choices -
   same
   $ ./lab audit tests/book/six_channels.toml tests/book/overlap_both_are_taken_back.trace
   attempts 2
   held 9
+  choices -
   same
   $ ./lab audit tests/book/six_channels.toml tests/book/overlap_one_comes_as_others_move.trace
   attempts 2
   held -
+  choices 16
   same
   $ ./lab audit tests/book/six_channels.toml tests/book/overlap_one_leaves_as_another_comes.trace
   attempts 0
   held -
+  choices -
   same
   $ ./lab audit tests/book/six_channels.toml tests/book/overlap_one_runs_out_of_time.trace
   attempts 1
   held -
+  choices 7
   same
   $ ./lab audit tests/book/six_channels.toml tests/book/overlap_three_are_taken_back.trace
   attempts 3
   held -
+  choices -
   same
   $ ./lab audit tests/book/six_channels.toml tests/book/overlap_two_are_to_leave.trace
   attempts 2
   held -
+  choices -
   same
   $ ./lab audit tests/book/six_channels.toml tests/book/overlap_two_change_places.trace
   attempts 0
   held -
+  choices -
   same
   $ ./lab audit tests/book/site.toml tests/book/overtaken.trace
   attempts 0
   held -
+  choices -
   same
   $ ./lab audit tests/book/site.toml tests/book/the_first_refusal.trace
   attempts 0
   held -
+  choices -
   same
   $ ./lab audit tests/book/site.toml tests/book/undone_a_call_is_refused.trace
   attempts 1
   held 5
-  differs
+  choices -
+  differs: line 5: refused 6 1/1/3; without: done
   [1]
   $ ./lab audit tests/book/site.toml tests/book/undone_a_call_is_refused_twice.trace
   attempts 1
   held 5
-  differs
+  choices -
+  differs: line 5: refused 6 1/1/3; without: done
   [1]
   $ ./lab audit tests/book/site.toml tests/book/undone_a_call_is_to_leave.trace
   attempts 1
   held -
+  choices -
   same
   $ ./lab audit tests/book/site.toml tests/book/undone_a_reference_is_free_again.trace
   attempts 1
   held -
+  choices 3
   same
   $ ./lab audit tests/book/site.toml tests/book/undone_a_reference_is_refused.trace
   attempts 1
   held 5
-  differs
+  choices 3
+  differs: line 5: refused 7 0 5; without: done
   [1]
   $ ./lab audit tests/book/site.toml tests/book/undone_a_refused_target.trace
   attempts 1
   held -
+  choices -
   same
   $ ./lab audit tests/book/site.toml tests/book/undone_a_release_is_awaited.trace
   attempts 0
   held -
+  choices -
   same
   $ ./lab audit tests/book/site.toml tests/book/undone_after_a_completed_one.trace
   attempts 1
   held -
+  choices -
   same
   $ ./lab audit tests/book/site.toml tests/book/undone_after_one_that_left.trace
   attempts 1
   held -
+  choices -
   same
   $ ./lab audit tests/book/site.toml tests/book/undone_another_channel_is_refused.trace
   attempts 1
   held -
+  choices -
   same
   $ ./lab audit tests/book/site.toml tests/book/undone_late_words_of_the_target.trace
   attempts 1
   held -
+  choices -
   same
   $ ./lab audit tests/book/site.toml tests/book/undone_no_release_is_awaited.trace
   attempts 1
   held -
+  choices -
   same
   $ ./lab audit tests/book/site.toml tests/book/undone_the_call_goes_on.trace
   attempts 1
   held -
+  choices -
   same
   $ ./lab audit tests/book/site.toml tests/book/undone_the_call_opens_in_the_list.trace
   attempts 1
   held -
+  choices -
   same
 
 Of a trace of over 50,000 events, too.
@@ -339,4 +391,5 @@ Of a trace of over 50,000 events, too.
   $ ./lab audit examples/two_cells.toml long.trace
   attempts 1
   held -
+  choices -
   same

@@ -4,22 +4,25 @@
 An attempt is undone, and its release acknowledged.
 
   $ ./lab run examples/two_cells.toml examples/handover_undone.txt --audit >printed
-  $ tail -4 printed
+  $ tail -5 printed
   end channels=1 calls=1 references=0 timers=0
   attempts 1
   held -
+  choices -
   same
   $ head -18 printed | cmp - examples/handover_undone.trace
 
 The mobile comes back; it arrives, so nothing was undone.
 
-  $ ./lab run examples/two_cells.toml examples/handover_returns.txt --audit | tail -3
+  $ ./lab run examples/two_cells.toml examples/handover_returns.txt --audit | tail -4
   attempts 1
   held -
+  choices -
   same
-  $ ./lab run examples/two_cells.toml examples/handover_arrives.txt --audit | tail -3
+  $ ./lab run examples/two_cells.toml examples/handover_arrives.txt --audit | tail -4
   attempts 0
   held -
+  choices -
   same
 
 Call 2 is refused the target of call 1, in line 14 of the trace. With states that is line 22.
@@ -36,32 +39,36 @@ Call 2 is refused the target of call 1, in line 14 of the trace. With states tha
   [1]
   $ sed -n 14p printed
   event open 2 1/1/3 -> refused 6 1/1/3
-  $ tail -3 printed
+  $ tail -4 printed
   attempts 1
   held 14
-  differs
+  choices -
+  differs: line 14: refused 6 1/1/3; without: done
   $ ./lab run examples/two_cells.toml held.txt --audit --words >printed
   [1]
-  $ tail -3 printed
+  $ tail -4 printed
   attempts 1
   held 14
-  differs
+  choices -
+  differs: line 14: refused 6 1/1/3; without: done
   $ ./lab run examples/two_cells.toml held.txt --state --audit >printed
   [1]
   $ sed -n 22p printed
   event open 2 1/1/3 -> refused 6 1/1/3
-  $ tail -3 printed
+  $ tail -4 printed
   attempts 1
   held 22
-  differs
+  choices -
+  differs: line 22: refused 6 1/1/3; without: done
   $ ./lab run examples/two_cells.toml held.txt >printed
   $ ./lab audit examples/two_cells.toml printed
   attempts 1
   held 14
-  differs
+  choices -
+  differs: line 14: refused 6 1/1/3; without: done
   [1]
 
-A call for which no channel is free is no event; the next one is.
+A call for which no channel is free is no event, but a choice; the next one is an event.
 
   $ cat >full.txt <<'END'
   > open 1 0 0 3
@@ -82,30 +89,34 @@ A call for which no channel is free is no event; the next one is.
   none free 1
   in open 2 1 1 3
   event open 2 1/1/3 -> refused 6 1/1/3
-  $ tail -3 printed
+  $ tail -4 printed
   attempts 1
   held 23
-  differs
+  choices 21
+  differs: line 23: refused 6 1/1/3; without: done
 
 The release is awaited at the end, so the attempt stays.
 
   $ head -5 held.txt >awaited.txt
-  $ ./lab run examples/two_cells.toml awaited.txt --audit | tail -3
+  $ ./lab run examples/two_cells.toml awaited.txt --audit | tail -4
   attempts 0
   held -
+  choices -
   same
 
-Two controllers: each has three lines. Of the first a handover to the second is taken back, of the second one that comes to
+Two controllers: each has four lines. Of the first a handover to the second is taken back, of the second one that comes to
 it, in whose way a call is.
 
-  $ ./lab run examples/two_cells.toml examples/handover_between.txt --peer examples/one_cell.toml --audit | tail -8
+  $ ./lab run examples/two_cells.toml examples/handover_between.txt --peer examples/one_cell.toml --audit | tail -10
   1: end channels=0 calls=0 references=0 timers=0
   2: end channels=1 calls=1 references=0 timers=0
   1: attempts 0
   1: held -
+  1: choices -
   1: same
   2: attempts 0
   2: held -
+  2: choices -
   2: same
   $ cat >both.txt <<'END'
   > open 1 0 0 3
@@ -122,13 +133,15 @@ it, in whose way a call is.
   $ sed -n '19,20p' printed
   2: in open 2 0 0 1
   2: event open 2 0/0/1 -> refused 6 0/0/1
-  $ tail -6 printed
+  $ tail -8 printed
   1: attempts 1
   1: held -
+  1: choices -
   1: same
   2: attempts 1
   2: held 20
-  2: differs
+  2: choices -
+  2: differs: line 20: refused 6 0/0/1; without: done
 
 Where nothing is run, nothing is taken out.
 

@@ -97,6 +97,7 @@ A call begins between the steps of an attempt:
   others 3
   settled yes
   held -
+  choices -
   same
 
 A refused target awaits no release:
@@ -105,6 +106,7 @@ A refused target awaits no release:
   others 3
   settled yes
   held -
+  choices -
   same
 
 What a station says of the target while its release is awaited is left out:
@@ -113,6 +115,7 @@ What a station says of the target while its release is awaited is left out:
   others 3
   settled yes
   held -
+  choices -
   same
 
 The release is awaited still:
@@ -121,7 +124,8 @@ The release is awaited still:
   others 5
   settled no
   held 9
-  differs
+  choices -
+  differs: line 9: refused 6 1/1/3; without: done
   [1]
 
 A call is refused for the target:
@@ -130,7 +134,8 @@ A call is refused for the target:
   others 3
   settled yes
   held 5
-  differs
+  choices -
+  differs: line 5: refused 6 1/1/3; without: done
   [1]
   $ ./lab rewind tests/book/site.toml tests/book/undone_a_call_is_refused.trace 5 2>/dev/null
   no attempt
@@ -142,7 +147,8 @@ A call is refused for the target, twice:
   others 4
   settled yes
   held 5
-  differs
+  choices -
+  differs: line 5: refused 6 1/1/3; without: done
   [1]
 
 A call begins while another is to leave:
@@ -151,6 +157,7 @@ A call begins while another is to leave:
   others 3
   settled yes
   held -
+  choices -
   same
 
 A refusal for the channel of another call is not held:
@@ -159,6 +166,7 @@ A refusal for the channel of another call is not held:
   others 3
   settled yes
   held -
+  choices -
   same
 
 Steps of the call itself stay while the release is awaited:
@@ -167,6 +175,7 @@ Steps of the call itself stay while the release is awaited:
   others 4
   settled yes
   held -
+  choices -
   same
 
 What a station says of the target stays where no release is awaited:
@@ -175,6 +184,7 @@ What a station says of the target stays where no release is awaited:
   others 4
   settled yes
   held -
+  choices -
   same
 
 An attempt is taken back after another that was completed:
@@ -183,6 +193,7 @@ An attempt is taken back after another that was completed:
   others 8
   settled yes
   held -
+  choices -
   same
   $ ./lab rewind tests/book/site.toml tests/book/undone_after_a_completed_one.trace 4 2>/dev/null
   no attempt
@@ -194,6 +205,7 @@ A call is to leave again, once it has left and begun anew:
   others 8
   settled yes
   held -
+  choices -
   same
   $ ./lab rewind tests/book/site.toml tests/book/undone_after_one_that_left.trace 4 2>/dev/null
   no attempt
@@ -205,7 +217,8 @@ A reference is refused for the one of an attempt that comes:
   others 2
   settled yes
   held 5
-  differs
+  choices 3
+  differs: line 5: refused 7 0 5; without: done
   [1]
 
 A reference is not held after the undo:
@@ -214,6 +227,7 @@ A reference is not held after the undo:
   others 4
   settled yes
   held -
+  choices 3
   same
 
 An attempt is taken back by a timer, and its call opens in the list:
@@ -222,6 +236,7 @@ An attempt is taken back by a timer, and its call opens in the list:
   others 2
   settled yes
   held -
+  choices -
   same
 
 A handover that is completed:
@@ -263,12 +278,14 @@ Both channels of a cell are taken, and both attempts taken back:
   others 10
   settled yes
   held 9
-  differs
+  choices 7
+  differs: line 9: refused 7 1 0; without: done
   [1]
   $ ./lab rewind tests/book/six_channels.toml tests/book/overlap_both_are_taken_back.trace 7
   others 9
   settled yes
   held -
+  choices -
   same
 
 One attempt runs out of time, the other is complete:
@@ -277,6 +294,7 @@ One attempt runs out of time, the other is complete:
   others 14
   settled yes
   held -
+  choices 7
   same
 
 A channel goes from attempt to attempt:
@@ -285,7 +303,8 @@ A channel goes from attempt to attempt:
   others 10
   settled yes
   held 7
-  differs
+  choices 9
+  differs: line 7: refused 6 1/0/1; without: done
   [1]
 
 A target awaits its release while its number goes to another attempt:
@@ -294,7 +313,8 @@ A target awaits its release while its number goes to another attempt:
   others 10
   settled yes
   held 12
-  differs
+  choices 9
+  differs: line 12: refused 6 1/0/1; without: done
   [1]
 
 Two calls change places:
@@ -309,11 +329,13 @@ A call comes to the cell to which others move:
   others 12
   settled yes
   held -
+  choices 7 16
   same
   $ ./lab rewind tests/book/six_channels.toml tests/book/overlap_one_comes_as_others_move.trace 7
   others 14
   settled yes
   held -
+  choices -
   same
 
 A call leaves for another controller while another moves to its cell:
@@ -328,11 +350,13 @@ Two calls are to leave for another controller, and come back by their own timers
   others 12
   settled yes
   held -
+  choices -
   same
   $ ./lab rewind tests/book/six_channels.toml tests/book/overlap_two_are_to_leave.trace 7
   others 11
   settled yes
   held -
+  choices -
   same
 
 Three attempts are taken back in the order of their opening:
@@ -341,16 +365,19 @@ Three attempts are taken back in the order of their opening:
   others 19
   settled yes
   held -
+  choices 7
   same
   $ ./lab rewind tests/book/six_channels.toml tests/book/overlap_three_are_taken_back.trace 7
   others 17
   settled yes
   held -
+  choices -
   same
   $ ./lab rewind tests/book/six_channels.toml tests/book/overlap_three_are_taken_back.trace 8
   others 16
   settled yes
   held -
+  choices -
   same
 
 A call tries again and again while another's attempt is open:
@@ -359,11 +386,13 @@ A call tries again and again while another's attempt is open:
   others 19
   settled yes
   held -
+  choices -
   same
   $ ./lab rewind tests/book/six_channels.toml tests/book/overlap_again_and_again.trace 10
   others 18
   settled yes
   held -
+  choices -
   same
 
 A call ends between the steps of an attempt, and another comes to its channel:
@@ -372,12 +401,14 @@ A call ends between the steps of an attempt, and another comes to its channel:
   others 12
   settled yes
   held -
+  choices -
   same
   $ ./lab rewind tests/book/six_channels.toml tests/book/overlap_a_call_ends_between.trace 12
   others 14
   settled yes
   held 14
-  differs
+  choices 16
+  differs: line 14: refused 6 2/0/1; without: done
   [1]
 
 A call begins and moves while the station refuses another's target:
@@ -386,9 +417,11 @@ A call begins and moves while the station refuses another's target:
   others 12
   settled yes
   held -
+  choices 10
   same
   $ ./lab rewind tests/book/six_channels.toml tests/book/overlap_a_call_begins_between.trace 10
   others 15
   settled yes
   held -
+  choices -
   same

@@ -125,15 +125,18 @@ third the whole timeslot is refused for the half that the attempt holds.
   others 49
   settled yes
   held -
+  choices -
   same
   $ ./lab audit examples/half_rate.toml examples/half_rate.trace
   attempts 1
   held -
+  choices -
   same
-  $ ./lab run examples/half_rate.toml examples/half_rate.txt --audit | tail -n 4
+  $ ./lab run examples/half_rate.toml examples/half_rate.txt --audit | tail -n 5
   end channels=0 calls=0 references=0 timers=0
   attempts 1
   held -
+  choices -
   same
   $ cat >beside.trace <<'END'
   > event open 1 0/0/3 -> done
@@ -147,6 +150,7 @@ third the whole timeslot is refused for the half that the attempt holds.
   others 4
   settled yes
   held -
+  choices -
   same
   $ cat >held.trace <<'END'
   > event open 1 0/0/3/1 -> done
@@ -159,7 +163,8 @@ third the whole timeslot is refused for the half that the attempt holds.
   others 3
   settled yes
   held 4
-  differs
+  choices -
+  differs: line 4: refused 6 1/1/3/0; without: done
   [1]
 
 A storm uses whole timeslots alone:

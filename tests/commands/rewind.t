@@ -33,18 +33,21 @@ isn't yet; in the third call 2 is refused the channel that the attempt holds.
   others 3
   settled yes
   held -
+  choices -
   same
   $ ./lab rewind examples/two_cells.toml awaited.trace 3
   others 2
   settled no
   held -
-  differs
+  choices -
+  differs: state channel 1/1/3 off; without: no state channel 1/1/3
   [1]
   $ ./lab rewind examples/two_cells.toml held.trace 3
   others 3
   settled yes
   held 4
-  differs
+  choices -
+  differs: line 4: refused 6 1/1/3; without: done
   [1]
   $ ./lab rewind examples/two_cells.toml undone.trace 1 2>errors
   no attempt
@@ -71,6 +74,7 @@ Of a long trace, too: 5,000 events of others stand between the undo and the rele
   others 5003
   settled yes
   held -
+  choices -
   same
 
 Nothing opens in a line that no trace has.
@@ -208,6 +212,7 @@ It is taken back, and the release acknowledged.
   others 4
   settled yes
   held -
+  choices -
   same
 
 The station refuses the target, which another call has then: no release is awaited.
@@ -224,6 +229,7 @@ The station refuses the target, which another call has then: no release is await
   others 5
   settled yes
   held -
+  choices -
   same
 
 The station confirms a target that was given up; the second acknowledgement of its release is no part of the attempt.
@@ -242,6 +248,7 @@ The station confirms a target that was given up; the second acknowledgement of i
   others 5
   settled yes
   held -
+  choices -
   same
 
 Call 2 is refused the target, in line 14, and would have got it.
@@ -259,7 +266,8 @@ Call 2 is refused the target, in line 14, and would have got it.
   others 5
   settled yes
   held 14
-  differs
+  choices -
+  differs: line 14: refused 6 1/1/3; without: done
   [1]
 
 The station's acknowledgement is still to come.
@@ -275,7 +283,8 @@ The station's acknowledgement is still to come.
   others 4
   settled no
   held -
-  differs
+  choices -
+  differs: state channel 1/1/3 off; without: no state channel 1/1/3
   [1]
 
 The call ends, and the attempt is undone with it.
@@ -293,6 +302,7 @@ The call ends, and the attempt is undone with it.
   others 6
   settled yes
   held -
+  choices -
   same
 
 It is never undone.
@@ -323,6 +333,7 @@ An attempt to move call 1 to another controller is taken back.
   others 4
   settled yes
   held -
+  choices -
   same
 
 A call without an attempt has none in any line.

@@ -269,11 +269,12 @@ So is it where the audit differs, which is printed as well.
   $ ./lab run examples/two_cells.toml held.txt --audit --chart /dev/full >printed
   /dev/full: no space left* (glob)
   [2]
-  $ tail -n 4 printed
+  $ tail -n 5 printed
   end channels=1 calls=1 references=0 timers=0
   attempts 1
   held 14
-  differs
+  choices -
+  differs: line 14: refused 6 1/1/3; without: done
 
 So is one behind a chart of over 8 KiB.
 

@@ -195,9 +195,10 @@ Options may stand anywhere, with a blank or = before what they name.
   $ ./lab run examples/two_cells.toml --chart=b.svg examples/handover_between.txt --peer examples/one_cell.toml --pcap b.pcap --words --state | cmp shown -
   $ cmp a.pcap b.pcap
   $ cmp examples/handover_between.svg b.svg
-  $ ./lab run examples/two_cells.toml --audit examples/handover_undone.txt | tail -n 3
+  $ ./lab run examples/two_cells.toml --audit examples/handover_undone.txt | tail -n 4
   attempts 1
   held -
+  choices -
   same
   $ printf 'open 1 0 0 3\n' | ./lab live --pcap c.pcap examples/two_cells.toml --state --words
   in open 1 0 0 3 # call 1

@@ -1,4 +1,5 @@
 //! Where the events of a run stand in what is printed of it.
+use crate::runs::AllBeside;
 use cell_table::SiteFault;
 use ho_procedure::exchange::Outbound;
 use lab_runs::listener::Listener;
@@ -6,32 +7,59 @@ use lab_runs::run::LabFault;
 use lab_runs::turn::Turn;
 use lab_script::script::Side;
 use radio_book::book::Book;
+use remainders::AskedLines;
 use std::alloc::{AllocError, Allocator, Global};
 use std::cell::Cell;
 use std::io;
 use trace_text::trace::{Mark, Step};
 
-/// In which lines the events of each controller stand, in their order: their numbers, counted from 1.
+/// In which lines the events of a controller stand, and its cells without a free channel, in their order: their numbers,
+/// counted from 1.
+#[derive(Drop)]
+struct SideLines<A: Allocator = Global> {
+    events: Vec<usize, A>,
+    none_free: Vec<usize, A>,
+}
+
+impl<A: Allocator + Copy> SideLines<A> {
+    /// No step yet.
+    fn new(alloc: A) -> SideLines<A> {
+        SideLines {
+            events: Vec::new(alloc),
+            none_free: Vec::new(alloc),
+        }
+    }
+
+    /// A step stands in a line.
+    fn note(&mut self, step: Step, line: usize) -> Result<(), AllocError> {
+        match step {
+            Step::Asked(..) => Ok(self.events.push(line)?),
+            Step::NoneFree(..) => Ok(self.none_free.push(line)?),
+        }
+    }
+}
+
+/// The same of each controller.
 #[derive(Drop)]
 pub struct EventLines<A: Allocator = Global> {
-    first: Vec<usize, A>,
-    peer: Vec<usize, A>,
+    first: SideLines<A>,
+    peer: SideLines<A>,
 }
 
 impl<A: Allocator + Copy> EventLines<A> {
     /// No event yet.
     fn new(alloc: A) -> EventLines<A> {
         EventLines {
-            first: Vec::new(alloc),
-            peer: Vec::new(alloc),
+            first: SideLines::new(alloc),
+            peer: SideLines::new(alloc),
         }
     }
 
-    /// An event of a controller stands in a line.
-    fn note(&mut self, side: Side, line: usize) -> Result<(), AllocError> {
+    /// A step of a controller stands in a line.
+    fn note(&mut self, side: Side, step: Step, line: usize) -> Result<(), AllocError> {
         match side {
-            Side::First => Ok(self.first.push(line)?),
-            Side::Peer => Ok(self.peer.push(line)?),
+            Side::First => self.first.note(step, line),
+            Side::Peer => self.peer.note(step, line),
         }
     }
 
@@ -40,20 +68,31 @@ impl<A: Allocator + Copy> EventLines<A> {
         let mut line = before.saturating_add(1);
         for step in &turn.steps {
             line = line.saturating_add(1);
-            match step {
-                Step::Asked(..) => self.note(turn.side, line)?,
-                Step::NoneFree(..) => {}
-            }
+            self.note(turn.side, *step, line)?;
         }
         Ok(())
     }
 
+    /// The lines of a controller.
+    fn of(&self, side: Side) -> &SideLines<A> {
+        match side {
+            Side::First => &self.first,
+            Side::Peer => &self.peer,
+        }
+    }
+
+    /// The lines of what a controller asked.
+    pub fn asked(&self, side: Side) -> AskedLines<'_> {
+        let SideLines { events, none_free } = self.of(side);
+        AskedLines {
+            events,
+            none_free,
+        }
+    }
+
     /// The line in which the event of a controller stands at a place, counted from 0.
     pub fn line_of(&self, side: Side, place: usize) -> Option<usize> {
-        match side {
-            Side::First => self.first.get(place).copied(),
-            Side::Peer => self.peer.get(place).copied(),
-        }
+        self.of(side).events.get(place).copied()
     }
 }
 
@@ -64,6 +103,8 @@ pub struct Noting<'a, L, A: Allocator + Copy = Global> {
     /// How many lines were printed.
     printed: &'a Cell<usize>,
     lines: EventLines<A>,
+    /// What is told beside the audits of the run, once it ended.
+    beside: Option<AllBeside<A>>,
 }
 
 impl<'a, L: Listener<A>, A: Allocator + Copy> Noting<'a, L, A> {
@@ -73,7 +114,24 @@ impl<'a, L: Listener<A>, A: Allocator + Copy> Noting<'a, L, A> {
             listener,
             printed,
             lines: EventLines::new(alloc),
+            beside: None,
         }
+    }
+
+    /// What is told beside the audits of the run.
+    pub(crate) fn tell_beside(&mut self, beside: AllBeside<A>) {
+        self.beside = Some(beside);
+    }
+
+    /// The same, where the run ended.
+    pub(crate) fn into_beside(self) -> Option<AllBeside<A>> {
+        let Noting {
+            listener: _,
+            printed: _,
+            lines: _,
+            beside,
+        } = self;
+        beside
     }
 
     /// Where the events stand that were told so far.

@@ -7,14 +7,17 @@ ghost use Rattle.radio_desk.specs.Audit.{IsAuditOf};
 ghost use Rattle.audits.specs.Runs.{AreTold, AreAuditsOf, IsAuditedRun, AreSame};
 
 use crate::noting::{EventLines, Noting};
-use crate::shown::print_audit;
+use crate::shown::{Asked, Beside, beside_of, print_audit};
 use ho_procedure::controller::Controller;
 use lab_runs::controllers::Controllers;
+use lab_runs::course::Run;
 use lab_runs::listener::Listener;
 use lab_runs::noting as view;
 use lab_runs::run::{LabFault, Sites, Status, play, read_sites, refuse_site};
+use lab_runs::turn::Turn;
 use lab_script::script::Side;
 use radio_desk::audit::Audit;
+use remainders::choices_in;
 use std::alloc::{AllocError, Allocator, Global};
 use std::io::{self, Write};
 use trace_text::trace::Mark;
@@ -77,6 +80,61 @@ fn audits_of<A: Allocator + Copy>(
     Ok(Audits { first, peer })
 }
 
+/// What is told of the audit of a controller's history beside what it found.
+fn beside_in<A: Allocator + Copy>(
+    alloc: A,
+    controller: &Controller<view::Noting<A>, A>,
+    turns: &[Turn<A>],
+    lines: &EventLines<A>,
+    side: Side,
+    audit: &Audit,
+) -> Result<Beside<A>, LabFault> {
+    let desk = controller.view().desk();
+    let (mut events, mut replies) = (Vec::new(alloc), Vec::new(alloc));
+    for place in 0..desk.len() {
+        if let Some((event, reply)) = desk.entry(place) {
+            events.push(*event)?;
+            replies.push(*reply)?;
+        }
+    }
+    let lines = lines.asked(side);
+    let choices = choices_in(alloc, turns, side, lines)?;
+    let asked = Asked {
+        events: &events,
+        replies: &replies,
+        lines: lines.events,
+        choices: &choices,
+    };
+    beside_of(alloc, desk.opening(), asked, audit)
+}
+
+/// What is told of the audits of the controllers of a run beside what they found.
+#[derive(Drop)]
+pub struct AllBeside<A: Allocator = Global> {
+    first: Beside<A>,
+    peer: Option<Beside<A>>,
+}
+
+/// The same of a run whose lines were noted.
+fn all_beside<A: Allocator + Copy>(
+    alloc: A,
+    run: &Run<A>,
+    lines: &EventLines<A>,
+    audits: &Audits,
+) -> Result<AllBeside<A>, LabFault> {
+    let Controllers { first, peer } = &run.controllers;
+    let audit = &audits.first.audit;
+    let first = beside_in(alloc, first, &run.turns, lines, Side::First, audit)?;
+    let peer = match (peer, audits.peer) {
+        (Some(peer), Some(found)) => {
+            let audit = &found.audit;
+            Some(beside_in(alloc, peer, &run.turns, lines, Side::Peer, audit)?)
+        }
+        (Some(_), None) | (None, _) => None,
+    };
+    Ok(AllBeside { first, peer })
+}
+
 /// Runs a script over sites that were read, and audits its controllers at the end.
 fn audit_played<A: Allocator + Copy, L: Listener<A>>(
     alloc: A,
@@ -90,7 +148,12 @@ fn audit_played<A: Allocator + Copy, L: Listener<A>>(
         AreAuditsOf A (views_of sites) script.now audits)) }
 {
     match play(alloc, sites, script, noting)? {
-        Some(run) => Ok(Some(audits_of(&run.controllers, noting.lines())?)),
+        Some(run) => {
+            let audits = audits_of(&run.controllers, noting.lines())?;
+            let beside = all_beside(alloc, &run, noting.lines(), &audits)?;
+            noting.tell_beside(beside);
+            Ok(Some(audits))
+        }
         None => Ok(None),
     }
 }
@@ -131,26 +194,32 @@ fn are_same(audits: &Audits) -> bool
     }
 }
 
-/// Prints three lines for each controller, behind its mark where there are two.
-fn print_all<W: Write>(out: &mut W, audits: &Audits) -> io::Result<()> {
+/// Prints four lines for each controller, behind its mark where there are two.
+fn print_all<W: Write>(out: &mut W, audits: &Audits, beside: &AllBeside) -> io::Result<()> {
     let first = audits.first;
-    match audits.peer {
-        None => print_audit(out, Mark::Alone, &first.audit, first.held),
-        Some(peer) => {
-            print_audit(out, Mark::First, &first.audit, first.held)?;
-            print_audit(out, Mark::Peer, &peer.audit, peer.held)
+    match (audits.peer, &beside.peer) {
+        (Some(peer), Some(of_peer)) => {
+            print_audit(out, Mark::First, &first.audit, first.held, &beside.first)?;
+            print_audit(out, Mark::Peer, &peer.audit, peer.held, of_peer)
+        }
+        (Some(_), None) | (None, _) => {
+            print_audit(out, Mark::Alone, &first.audit, first.held, &beside.first)
         }
     }
 }
 
-/// Prints what the audits of the controllers of a run came to: three lines for each, behind its mark where there are two. The
+/// Prints what the audits of the controllers of a run came to: four lines for each, behind its mark where there are two. The
 /// answer is `Done` where of each all that remains comes to the same, else `Differs`.
-pub fn print_audits<W: Write>(out: &mut W, audits: &Audits) -> Result<Status, LabFault>
+pub fn print_audits<W: Write>(
+    out: &mut W,
+    audits: &Audits,
+    beside: &AllBeside,
+) -> Result<Status, LabFault>
     ensures done { result ≡ Ok Status.Done → AreSame audits.now }
     ensures differs { result ≡ Ok Status.Differs → AreSame audits.now → ⊥ }
     ensures refused { result ≢ Ok Status.Refused }
 {
-    print_all(out, audits)?;
+    print_all(out, audits, beside)?;
     if are_same(audits) {
         Ok(Status::Done)
     } else {

@@ -1,23 +1,79 @@
 //! What is printed of an audit.
 //!
 //! No clause says what is printed: that is shown by tests.
+use lab_runs::run::LabFault;
+use radio_book::book::Book;
+use radio_book::event::{Event, Reply};
 use radio_desk::audit::Audit;
+use remainders::{Choice, kept_places, other_choices, print_choices, print_difference};
+use std::alloc::{Allocator, Global};
 use std::io::{self, Write};
 use trace_text::trace::Mark;
 
+/// What is told of an audit beside what it found.
+#[derive(Drop)]
+pub struct Beside<A: Allocator = Global> {
+    /// The lines of the choices that would come out otherwise without the attempts.
+    pub choices: Vec<usize, A>,
+    /// What differs without them, where anything does.
+    pub difference: Vec<u8, A>,
+}
+
+/// The same of what a book was asked: its events, their replies, their lines, and the choices.
+pub fn beside_of<A: Allocator + Copy>(
+    alloc: A,
+    book: &Book<A>,
+    asked: Asked<'_>,
+    audit: &Audit,
+) -> Result<Beside<A>, LabFault> {
+    let Asked {
+        events,
+        replies,
+        lines,
+        choices,
+    } = asked;
+    let kept = kept_places(alloc, events, replies)?;
+    let choices = other_choices(alloc, book, events, &kept, choices)?;
+    let mut difference = Vec::new(alloc);
+    if !audit.same {
+        print_difference(alloc, book, events, &kept, lines, &mut difference)?;
+    }
+    Ok(Beside {
+        choices,
+        difference,
+    })
+}
+
+/// What a book was asked.
+#[derive(Clone, Copy, Debug, PartialEq, Eq)]
+pub struct Asked<'a> {
+    pub events: &'a [Event],
+    pub replies: &'a [Reply],
+    /// The numbers of their lines, counted from 1.
+    pub lines: &'a [usize],
+    pub choices: &'a [Choice],
+}
+
 /// Prints what an audit found, each line behind its controller's mark: how many attempts were taken out, the number of the
-/// line in which the first held entry stands, and whether what remains comes to the same.
-pub fn print_audit<W: Write>(
+/// line in which the first held entry stands, the lines of the choices that would come out otherwise, and whether what
+/// remains comes to the same, or what differs.
+pub fn print_audit<A: Allocator, W: Write>(
     out: &mut W,
     mark: Mark,
     audit: &Audit,
     held: Option<usize>,
+    beside: &Beside<A>,
 ) -> io::Result<()> {
     writeln!(out, "{mark}attempts {}", audit.attempts)?;
     match held {
         Some(line) => writeln!(out, "{mark}held {line}")?,
         None => writeln!(out, "{mark}held -")?,
     }
-    let verdict = if audit.same { "same" } else { "differs" };
-    writeln!(out, "{mark}{verdict}")
+    print_choices(out, mark, &beside.choices)?;
+    if audit.same {
+        return writeln!(out, "{mark}same");
+    }
+    write!(out, "{mark}differs: ")?;
+    out.write_all(&beside.difference)?;
+    writeln!(out)
 }

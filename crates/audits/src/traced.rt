@@ -7,17 +7,20 @@ ghost use Rattle.read_traces.specs.Entries as said;
 ghost use Rattle.audits.specs.Histories.{OfTheHistory, LeadsApart};
 ghost use Rattle.audits.specs.Traces.{InWholeTrace};
 
-use crate::shown::print_audit;
+use crate::shown::{Asked, Beside, beside_of, print_audit};
 use cell_table::Site;
 use lab_runs::listener::Printing;
 use lab_runs::run::{LabFault, Status, refuse_site};
 use radio_book::book::Book;
 use radio_book::event::Event;
+use radio_book::run::run;
 use radio_desk::audit::Audit;
 use radio_desk::desk::{Desk, DeskFault};
 use radio_desk::seat::Seat;
+use read_traces::choices::{Texts, choices_of_trace, event_lines};
 use read_traces::entries::{Entry, first_unreadable};
 use read_traces::reading::{Told, fresh_book, refuse_line, told_entries};
+use remainders::Choice;
 use std::alloc::{AllocError, Allocator, Global};
 use std::io::Write;
 use trace_text::trace::Mark;
@@ -84,18 +87,41 @@ fn audited_after<A: Allocator + Copy>(
     audited(&desk)
 }
 
+/// What is told of the audit of a trace's events beside what it found.
+fn beside_told<A: Allocator + Copy>(
+    alloc: A,
+    book: &Book<A>,
+    told: &Told<A>,
+    choices: &[Choice],
+    audit: &Audit,
+) -> Result<Beside<A>, LabFault> {
+    let (_, replies) = run(alloc, book, &told.events)?;
+    let lines = event_lines(alloc, &told.entries)?;
+    let asked = Asked {
+        events: &told.events,
+        replies: &replies,
+        lines: &lines,
+        choices,
+    };
+    beside_of(alloc, book, asked, audit)
+}
+
 /// Takes all settled attempts out of what the events of a trace come to from a book on, and prints what remains.
 fn audit_told<A: Allocator + Copy, W: Write>(
     alloc: A,
     book: Book<A>,
     told: &Told<A>,
+    choices: &[Choice],
     out: &mut W,
 ) -> Result<Status, LabFault>
     ensures done { result ≡ Ok Status.Done → OfTheHistory LeadsAlike book told.now.events.items }
     ensures differs { result ≡ Ok Status.Differs → OfTheHistory LeadsApart book told.now.events.items }
 {
+    let opening = book.copy()?;
     let audit = audited_after(alloc, book, told)?;
-    print_audit(out, Mark::Alone, &audit, held_line(&audit, &told.entries))?;
+    let beside = beside_told(alloc, &opening, told, choices, &audit)?;
+    let held = held_line(&audit, &told.entries);
+    print_audit(out, Mark::Alone, &audit, held, &beside)?;
     if audit.same {
         Ok(Status::Done)
     } else {
@@ -107,16 +133,19 @@ fn audit_told<A: Allocator + Copy, W: Write>(
 fn audit_entries<A: Allocator + Copy, W: Write>(
     alloc: A,
     book: Book<A>,
-    trace: &str,
+    texts: Texts<'_>,
     out: &mut W,
 ) -> Result<Status, LabFault>
     ensures done { result ≡ Ok Status.Done →
-        OfTheHistory LeadsAlike book (said.events_of (said.entries_of trace.now)) }
+        OfTheHistory LeadsAlike book (said.events_of (said.entries_of texts.entry.trace.now)) }
     ensures differs { result ≡ Ok Status.Differs →
-        OfTheHistory LeadsApart book (said.events_of (said.entries_of trace.now)) }
+        OfTheHistory LeadsApart book (said.events_of (said.entries_of texts.entry.trace.now)) }
 {
-    match told_entries(alloc, &book, trace, out)? {
-        Some(told) => audit_told(alloc, book, &told, out),
+    match told_entries(alloc, &book, texts.trace, out)? {
+        Some(told) => {
+            let choices = choices_of_trace(alloc, texts, &told)?;
+            audit_told(alloc, book, &told, &choices, out)
+        }
         None => Ok(Status::Refused),
     }
 }
@@ -125,30 +154,30 @@ fn audit_entries<A: Allocator + Copy, W: Write>(
 fn audit_over<A: Allocator + Copy, W: Write>(
     alloc: A,
     site: Site<A>,
-    trace: &str,
+    texts: Texts<'_>,
     out: &mut W,
 ) -> Result<Status, LabFault>
-    ensures readable { (result ≢ Ok Status.Refused) → OnOk result (said.first_unreadable trace.now ≡ None) }
+    ensures readable { (result ≢ Ok Status.Refused) → OnOk result (said.first_unreadable texts.entry.trace.now ≡ None) }
     ensures done { result ≡ Ok Status.Done →
-        OfTheHistory LeadsAlike (empty_book site) (said.events_of (said.entries_of trace.now)) }
+        OfTheHistory LeadsAlike (empty_book site) (said.events_of (said.entries_of texts.entry.trace.now)) }
     ensures differs { result ≡ Ok Status.Differs →
-        OfTheHistory LeadsApart (empty_book site) (said.events_of (said.entries_of trace.now)) }
-    ensures memory { result ≡ Err LabFault.NoMemory → said.first_unreadable trace.now ≡ None }
+        OfTheHistory LeadsApart (empty_book site) (said.events_of (said.entries_of texts.entry.trace.now)) }
+    ensures memory { result ≡ Err LabFault.NoMemory → said.first_unreadable texts.entry.trace.now ≡ None }
 {
-    if let Some(number) = first_unreadable(trace) {
+    if let Some(number) = first_unreadable(texts.trace) {
         return refuse_line(number, out);
     }
     let book = fresh_book(alloc, site)?;
-    audit_entries(alloc, book, trace, out)
+    audit_entries(alloc, book, texts, out)
 }
 
 /// Takes all attempts that were undone and are settled out of a trace, as [`lab_run`](lab_runs::run::lab_run) prints it from
 /// the empty book on, together, and prints what that comes to, to `out`.
 ///
-/// The trace's lines that begin with `event ` are its events. Three lines are printed: `attempts` and how many were taken
-/// out, `held` and the number of the line of the first event that was refused for what one of them held or `-`, and `same`
-/// where the events that remain lead to the same book and get the same replies, else `differs`. Then the answer is `Done`
-/// or `Differs`. Where no event is held it is `Done`: all settled attempts leave no trace together.
+/// The trace's lines that begin with `event ` are its events. Four lines are printed: `attempts` and how many were taken
+/// out, `held` and the number of the line of the first event that was refused for what one of them held or `-`, `choices`
+/// and the lines of those that would come out otherwise or `-`, and `same` where the events that remain lead to the same book
+/// and get the same replies, else `differs: ` and what does first. Then the answer is `Done` or `Differs`. Where no event is held it is `Done`: all settled attempts leave no trace together.
 ///
 /// The site, and lines of the trace, are refused as by [`rewind_run`](read_traces::rewound::rewind_run). `scratch` serves
 /// while the site is read, `alloc` for all else. Once memory was refused (`NoMemory`), or `out` can't be written to
@@ -165,7 +194,14 @@ pub fn audit_run<A: Allocator + Copy, W: Write>(
     ensures memory { result ≡ Err LabFault.NoMemory → ¬ IsBlankFile site.now }
 {
     match Site::read(alloc, scratch, site) {
-        Ok(site) => audit_over(alloc, site, trace, out),
+        Ok(read) => {
+            let texts = Texts {
+                scratch,
+                site,
+                trace,
+            };
+            audit_over(alloc, read, texts, out)
+        }
         Err(fault) => refuse_site::<A, _>(fault, &mut Printing::new(out)),
     }
 }

@@ -1,7 +1,7 @@
 //! A run with views, and all settled attempts taken out at its end.
 use crate::lines::CountedLines;
 use crate::noting::Noting;
-use crate::runs::{Audits, audited_run, print_audits};
+use crate::runs::{AllBeside, Audits, audited_run, print_audits};
 use lab_runs::run::{LabFault, Status};
 use run_views::{Sheets, Viewer, Views};
 use std::alloc::Global;
@@ -18,9 +18,12 @@ pub struct AskedRun<'a> {
     pub views: &'a Views<'a>,
 }
 
-/// What the audits of the controllers of a run come to, where anything was run, and whether the files of its views were
+/// What the audits of the controllers of a run come to, and what is told beside them.
+type Told = (Audits, AllBeside);
+
+/// The same where anything was run, and whether the files of its views were
 /// written.
-type Ended = (Option<Audits>, Result<(), LabFault>);
+type Ended = (Option<Told>, Result<(), LabFault>);
 
 /// Runs a script, tells a viewer what comes of it, whose lines are counted, and takes all settled attempts out.
 fn audit_told<W: Write>(
@@ -28,7 +31,7 @@ fn audit_told<W: Write>(
     asked: AskedRun<'_>,
     viewer: &mut Viewer<'_, W>,
     printed: &Cell<usize>,
-) -> Result<Option<Audits>, LabFault> {
+) -> Result<Option<Told>, LabFault> {
     let AskedRun {
         site,
         peer,
@@ -36,7 +39,11 @@ fn audit_told<W: Write>(
         views: _,
     } = asked;
     let mut noting = Noting::new(alloc, viewer, printed);
-    audited_run(alloc, alloc, site, peer, script, &mut noting)
+    let audits = audited_run(alloc, alloc, site, peer, script, &mut noting)?;
+    match (audits, noting.into_beside()) {
+        (Some(audits), Some(beside)) => Ok(Some((audits, beside))),
+        (Some(_), None) | (None, _) => Ok(None),
+    }
 }
 
 /// The same with a viewer that prints to a writer which counts lines, and writes what the viewer gathered to the files of its
@@ -84,7 +91,7 @@ pub fn audit_viewed<F: Write + OpenFile + Drop, W: Write, E: Write>(
 ) -> Result<Status, LabFault> {
     let (audits, written) = run_viewed(alloc, asked, sheets, out, errors)?;
     let status = match audits {
-        Some(audits) => print_audits(out, &audits)?,
+        Some((audits, beside)) => print_audits(out, &audits, &beside)?,
         None => Status::Refused,
     };
     written?;

@@ -2,6 +2,7 @@
 //! (`reading`), why one can't be (`reasons`), and an undone attempt taken out of them (`rewound`).
 #![tactic(auto)]
 
+pub mod choices;
 pub mod entries;
 pub mod reading;
 pub mod reasons;

@@ -6,6 +6,7 @@ ghost use Rattle.radio_book.specs.NoTrace.{LeavesNoTrace};
 ghost use Rattle.read_traces.specs.Entries as said;
 ghost use Rattle.read_traces.specs.Rewound.{AreSameReplies, IsSame, StandsIn, LeavesATrace, NoneOpens, InEntries, InTrace};
 
+use crate::choices::{Texts, choices_of_trace, event_lines};
 use crate::entries::{Entry, first_unreadable};
 use crate::reading::{fresh_book, refuse_line, told_entries};
 use cell_table::Site;
@@ -15,8 +16,19 @@ use radio_book::book::Book;
 use radio_book::event::{Event, Reply};
 use radio_book::rewind::{RewindFault, Rewound, rewind};
 use radio_desk::entry::is_same_reply;
+use remainders::{Choice, other_choices, print_choices, print_difference};
 use std::alloc::{Allocator, Global};
 use std::io::Write;
+use trace_text::trace::Mark;
+
+/// What a trace tells, over a book: its entries, their events, and which of its lines are choices.
+#[derive(Drop)]
+struct Traced<'a, A: Allocator + Copy> {
+    book: &'a Book<A>,
+    entries: &'a [Entry],
+    events: &'a [Event],
+    choices: &'a [Choice],
+}
 
 /// Refuses a line in which no undone attempt opens, and prints so.
 fn refuse_attempt<W: Write>(out: &mut W) -> Result<Status, LabFault>
@@ -75,29 +87,71 @@ fn held_line<A: Allocator>(rewound: &Rewound<A>, entries: &[Entry]) -> Option<us
     Some(entry.line())
 }
 
-/// Prints what stays without the attempt, and whether it left a trace.
-fn print_rewound<A: Allocator, W: Write>(
+/// Prints which choices would come out otherwise without the attempt.
+fn print_other_choices<A: Allocator + Copy, W: Write>(
+    alloc: A,
+    traced: &Traced<'_, A>,
     rewound: &Rewound<A>,
-    entries: &[Entry],
+    out: &mut W,
+) -> Result<(), LabFault> {
+    let Traced {
+        book,
+        entries: _,
+        events,
+        choices,
+    } = traced;
+    let lines = other_choices(alloc, *book, *events, &rewound.others, *choices)?;
+    Ok(print_choices(out, Mark::Alone, &lines)?)
+}
+
+/// Prints that the attempt left a trace, and the first that differs.
+fn print_differs<A: Allocator + Copy, W: Write>(
+    alloc: A,
+    traced: &Traced<'_, A>,
+    rewound: &Rewound<A>,
+    out: &mut W,
+) -> Result<(), LabFault> {
+    let lines = event_lines(alloc, traced.entries)?;
+    let others = &rewound.others;
+    write!(out, "differs: ")?;
+    print_difference(alloc, traced.book, traced.events, others, &lines, out)?;
+    Ok(writeln!(out)?)
+}
+
+/// Prints what stays without the attempt.
+fn print_remainder<A: Allocator + Copy, W: Write>(
+    alloc: A,
+    traced: &Traced<'_, A>,
+    rewound: &Rewound<A>,
+    out: &mut W,
+) -> Result<(), LabFault> {
+    writeln!(out, "others {}", rewound.others.len())?;
+    let settled = if rewound.settled { "yes" } else { "no" };
+    writeln!(out, "settled {settled}")?;
+    match held_line(rewound, traced.entries) {
+        Some(line) => writeln!(out, "held {line}")?,
+        None => writeln!(out, "held -")?,
+    }
+    print_other_choices(alloc, traced, rewound, out)
+}
+
+/// Prints what stays without the attempt, and whether it left a trace.
+fn print_rewound<A: Allocator + Copy, W: Write>(
+    alloc: A,
+    traced: &Traced<'_, A>,
+    rewound: &Rewound<A>,
     out: &mut W,
 ) -> Result<Status, LabFault>
     ensures done { result ≡ Ok Status.Done → IsSame rewound.now }
     ensures differs { result ≡ Ok Status.Differs → IsSame rewound.now → ⊥ }
     ensures refused { result ≢ Ok Status.Refused }
-    ensures memory { result ≢ Err LabFault.NoMemory }
 {
-    writeln!(out, "others {}", rewound.others.len())?;
-    let settled = if rewound.settled { "yes" } else { "no" };
-    writeln!(out, "settled {settled}")?;
-    match held_line(rewound, entries) {
-        Some(line) => writeln!(out, "held {line}")?,
-        None => writeln!(out, "held -")?,
-    }
+    print_remainder(alloc, traced, rewound, out)?;
     if is_same(rewound) {
         writeln!(out, "same")?;
         Ok(Status::Done)
     } else {
-        writeln!(out, "differs")?;
+        print_differs(alloc, traced, rewound, out)?;
         Ok(Status::Differs)
     }
 }
@@ -114,22 +168,20 @@ fn place_of(entries: &[Entry], line: usize) -> Option<usize>
 /// Takes out the attempt that opens in a line, and prints what stays.
 fn rewind_line<A: Allocator + Copy, W: Write>(
     alloc: A,
-    book: &Book<A>,
-    entries: &[Entry],
-    events: &[Event],
+    traced: &Traced<'_, A>,
     line: usize,
     out: &mut W,
 ) -> Result<Status, LabFault>
-    requires events { events.now ≡ said.events_of entries.now }
-    ensures done { result ≡ Ok Status.Done → InEntries LeavesNoTrace book.now entries.now line }
-    ensures differs { result ≡ Ok Status.Differs → InEntries LeavesATrace book.now entries.now line }
-    ensures refused { result ≡ Ok Status.Refused → NoneOpens book.now entries.now line }
+    requires events { traced.now.events.now ≡ said.events_of traced.now.entries.now }
+    ensures done { result ≡ Ok Status.Done → InEntries LeavesNoTrace traced.now.book.now traced.now.entries.now line }
+    ensures differs { result ≡ Ok Status.Differs → InEntries LeavesATrace traced.now.book.now traced.now.entries.now line }
+    ensures refused { result ≡ Ok Status.Refused → NoneOpens traced.now.book.now traced.now.entries.now line }
 {
-    let Some(at) = place_of(entries, line) else {
+    let Some(at) = place_of(traced.entries, line) else {
         return refuse_attempt(out);
     };
-    match rewind(alloc, book, events, at) {
-        Ok(rewound) => print_rewound(&rewound, entries, out),
+    match rewind(alloc, traced.book, traced.events, at) {
+        Ok(rewound) => print_rewound(alloc, traced, &rewound, out),
         Err(RewindFault::NoAttempt) => refuse_attempt(out),
         Err(RewindFault::NoMemory) => Err(LabFault::NoMemory),
     }
@@ -139,50 +191,59 @@ fn rewind_line<A: Allocator + Copy, W: Write>(
 fn rewind_entries<A: Allocator + Copy, W: Write>(
     alloc: A,
     book: &Book<A>,
-    trace: &str,
+    texts: Texts<'_>,
     line: usize,
     out: &mut W,
 ) -> Result<Status, LabFault>
     ensures done { result ≡ Ok Status.Done →
-        InEntries LeavesNoTrace book.now (said.entries_of trace.now) line }
+        InEntries LeavesNoTrace book.now (said.entries_of texts.entry.trace.now) line }
     ensures differs { result ≡ Ok Status.Differs →
-        InEntries LeavesATrace book.now (said.entries_of trace.now) line }
+        InEntries LeavesATrace book.now (said.entries_of texts.entry.trace.now) line }
 {
-    match told_entries(alloc, book, trace, out)? {
-        Some(told) => rewind_line(alloc, book, &told.entries, &told.events, line, out),
-        None => Ok(Status::Refused),
-    }
+    let Some(told) = told_entries(alloc, book, texts.trace, out)? else {
+        return Ok(Status::Refused);
+    };
+    let choices = choices_of_trace(alloc, texts, &told)?;
+    let traced = Traced {
+        book,
+        entries: &told.entries,
+        events: &told.events,
+        choices: &choices,
+    };
+    rewind_line(alloc, &traced, line, out)
 }
 
 /// Takes an attempt out of a trace over a site that was read.
 fn rewind_trace<A: Allocator + Copy, W: Write>(
     alloc: A,
     site: Site<A>,
-    trace: &str,
+    texts: Texts<'_>,
     line: usize,
     out: &mut W,
 ) -> Result<Status, LabFault>
-    ensures readable { (result ≢ Ok Status.Refused) → OnOk result (said.first_unreadable trace.now ≡ None) }
+    ensures readable { (result ≢ Ok Status.Refused) → OnOk result (said.first_unreadable texts.entry.trace.now ≡ None) }
     ensures done { result ≡ Ok Status.Done →
-        InEntries LeavesNoTrace (empty_book site) (said.entries_of trace.now) line }
+        InEntries LeavesNoTrace (empty_book site) (said.entries_of texts.entry.trace.now) line }
     ensures differs { result ≡ Ok Status.Differs →
-        InEntries LeavesATrace (empty_book site) (said.entries_of trace.now) line }
-    ensures memory { result ≡ Err LabFault.NoMemory → said.first_unreadable trace.now ≡ None }
+        InEntries LeavesATrace (empty_book site) (said.entries_of texts.entry.trace.now) line }
+    ensures memory { result ≡ Err LabFault.NoMemory → said.first_unreadable texts.entry.trace.now ≡ None }
 {
-    if let Some(number) = first_unreadable(trace) {
+    if let Some(number) = first_unreadable(texts.trace) {
         return refuse_line(number, out);
     }
     let book = fresh_book(alloc, site)?;
-    rewind_entries(alloc, &book, trace, line, out)
+    rewind_entries(alloc, &book, texts, line, out)
 }
 
 /// Takes an undone attempt out of a trace, as [`lab_run`](lab_runs::run::lab_run) prints it from the empty book on, and
 /// prints what stays to `out`.
 ///
 /// The trace's lines that begin with `event ` are its events, of which the one in `line`, counted from 1, opened the
-/// attempt. Four lines are printed: `others` and how many events stay, `settled` and `yes` or `no`, `held` and the number
-/// of the line of the first held refusal or `-`, and `same` where the book after all events is the one after the others
-/// alone, and the others got the same replies, else `differs`. Then the answer is `Done` or `Differs`.
+/// attempt. Five lines are printed: `others` and how many events stay, `settled` and `yes` or `no`, `held` and the number
+/// of the line of the first held refusal or `-`, `choices` and the numbers of the lines in which a channel was chosen, or none
+/// was free, where the book without the attempt would have given another or one, or `-`, and `same` where the book after
+/// all events is the one after the others alone, and the others got the same replies, else `differs: ` and what does
+/// first. Then the answer is `Done` or `Differs`.
 ///
 /// One line is printed, and the answer is `Refused`, where the site is refused as by `lab_run`; where a line can't be
 /// read (`line` and the number of the first such, of an event that isn't written as a trace has it, or of a trace of two
@@ -202,7 +263,14 @@ pub fn rewind_run<A: Allocator + Copy, W: Write>(
     ensures memory { result ≡ Err LabFault.NoMemory → ¬ IsBlankFile site.now }
 {
     match Site::read(alloc, scratch, site) {
-        Ok(site) => rewind_trace(alloc, site, trace, line, out),
+        Ok(read) => {
+            let texts = Texts {
+                scratch,
+                site,
+                trace,
+            };
+            rewind_trace(alloc, read, texts, line, out)
+        }
         Err(fault) => refuse_site::<A, _>(fault, &mut Printing::new(out)),
     }
 }

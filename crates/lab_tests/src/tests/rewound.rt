@@ -21,7 +21,7 @@ end channels=1 calls=1 references=0 timers=0
 ";
 
 /// What is printed of the attempt that opens in its line 6.
-const TAKEN_OUT: &str = "others 3\nsettled yes\nheld -\nsame\n";
+const TAKEN_OUT: &str = "others 3\nsettled yes\nheld -\nchoices -\nsame\n";
 
 /// What an attempt's taking out printed, and how it ended.
 fn printed<A: Allocator + Copy>(

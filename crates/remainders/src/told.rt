@@ -1,0 +1,155 @@
+//! The choices of a run, and what is printed of them.
+use crate::choices::Choice;
+use channel_fsm::ChanId;
+use ho_procedure::exchange::{Inbound, Line};
+use lab_runs::turn::Turn;
+use lab_script::script::Side;
+use radio_book::event::Event;
+use std::alloc::{AllocError, Allocator};
+use std::io::{self, Write};
+use trace_text::trace::{Mark, Step};
+
+/// The lines of what a controller asked, in their order: of its events, and of each cell without a free channel.
+#[derive(Clone, Copy, Debug, PartialEq, Eq)]
+pub struct AskedLines<'a> {
+    pub events: &'a [usize],
+    pub none_free: &'a [usize],
+}
+
+/// The choices of a controller, as far as its turns were told.
+#[derive(Drop)]
+struct Choices<'a, A: Allocator> {
+    lines: AskedLines<'a>,
+    /// How many events were asked, and how often none was free.
+    asked: usize,
+    none: usize,
+    choices: Vec<Choice, A>,
+}
+
+/// Whether an input asks for a free channel to open a call on.
+fn is_seize<A: Allocator>(input: &Inbound<A>) -> bool {
+    matches!(input, Inbound::Operator(Line::Seize { .. }))
+}
+
+/// The channel that an event takes because it was free.
+fn chosen_by(event: Event, is_seize: bool) -> Option<ChanId> {
+    match event {
+        Event::Take(_, _, chan) => Some(chan),
+        Event::Open(_, chan) => { if is_seize { Some(chan) } else { None } }
+        Event::Clear(_)
+        | Event::Look(_)
+        | Event::Reserve(..)
+        | Event::Activate(_)
+        | Event::Undo(..)
+        | Event::Command(_)
+        | Event::Complete(_)
+        | Event::Require(_)
+        | Event::Order(_)
+        | Event::Left(_)
+        | Event::Confirm(_)
+        | Event::Refuse(_)
+        | Event::Released(_)
+        | Event::Detect(_)
+        | Event::Owner(_) => None,
+    }
+}
+
+/// The line at a place, 0 where none is known.
+fn line_at(lines: &[usize], place: usize) -> usize {
+    lines.get(place).copied().unwrap_or(0)
+}
+
+impl<A: Allocator> Choices<'_, A> {
+    /// An event was asked.
+    fn ask(&mut self, event: Event, is_seize: bool) -> Result<(), AllocError> {
+        if let Some(chan) = chosen_by(event, is_seize) {
+            self.choices.push(Choice {
+                line: line_at(self.lines.events, self.asked),
+                before: self.asked,
+                cell: chan.cell,
+                rate: chan.sub.rate(),
+                chosen: Some(chan),
+            })?;
+        }
+        self.asked = self.asked.saturating_add(1);
+        Ok(())
+    }
+
+    /// A step was taken for an input.
+    fn step(&mut self, step: Step, is_seize: bool) -> Result<(), AllocError> {
+        match step {
+            Step::Asked(event, _) => self.ask(event, is_seize),
+            Step::NoneFree(cell, rate) => {
+                self.choices.push(Choice {
+                    line: line_at(self.lines.none_free, self.none),
+                    before: self.asked,
+                    cell,
+                    rate,
+                    chosen: None,
+                })?;
+                self.none = self.none.saturating_add(1);
+                Ok(())
+            }
+        }
+    }
+
+    /// What came of an input.
+    fn turn<B: Allocator>(&mut self, turn: &Turn<B>) -> Result<(), AllocError> {
+        let is_seize = is_seize(&turn.input);
+        for step in &turn.steps {
+            self.step(*step, is_seize)?;
+        }
+        Ok(())
+    }
+}
+
+/// The choices of a controller in a run, in their order: each Take, the Open of each `seize`, and where none was free.
+pub fn choices_in<A: Allocator + Copy>(
+    alloc: A,
+    turns: &[Turn<A>],
+    side: Side,
+    lines: AskedLines<'_>,
+) -> Result<Vec<Choice, A>, AllocError> {
+    let mut choices = Choices {
+        lines,
+        asked: 0,
+        none: 0,
+        choices: Vec::new(alloc),
+    };
+    for turn in turns {
+        if turn.side == side {
+            choices.turn(turn)?;
+        }
+    }
+    Ok(choices.choices)
+}
+
+/// The choices of events of which nothing else is known: those that take a channel for an attempt.
+pub fn taken_in<A: Allocator + Copy>(
+    alloc: A,
+    events: &[Event],
+    lines: AskedLines<'_>,
+) -> Result<Vec<Choice, A>, AllocError> {
+    let mut choices = Choices {
+        lines,
+        asked: 0,
+        none: 0,
+        choices: Vec::new(alloc),
+    };
+    for event in events {
+        choices.ask(*event, false)?;
+    }
+    Ok(choices.choices)
+}
+
+/// Prints the lines of choices that would come out otherwise, behind a controller's mark: `choices -` where there is none.
+pub fn print_choices<W: Write>(out: &mut W, mark: Mark, lines: &[usize]) -> io::Result<()> {
+    write!(out, "{mark}choices")?;
+    if lines.is_empty() {
+        write!(out, " -")?;
+    }
+    for line in lines {
+        write!(out, " {line}")?;
+    }
+    writeln!(out)
+}
