@@ -232,7 +232,7 @@ Whose a line is: a message about a channel that no call has; a handover that fin
   > undo 3
   > END
   $ ./lab run examples/two_cells.toml script.txt --words | grep -v -e '^out' -e '^in open' -e '^event open'
-  in abis 0 0 0833010b # no call; RF CHANNEL RELEASE ACK tn=3
+  in abis 0 0 0833010b # no call; RF CHANNEL RELEASE ACK tn=3; ignored: this stage doesn't expect it
   event released 0/0/3 -> refused 8 0/0/3 # no call; Unexpected: this channel is in use for no call, or doesn't wait for this message of its station
   in abis 0 0 0822010b080000 # call 1; CHANNEL ACTIVATION ACK tn=3 frame=0
   event confirm 0/0/3 -> owned 1 # call 1

@@ -17,4 +17,4 @@ pub use calls::Calls;
 pub use content::{Content, Place, content_of};
 pub use names::message_name;
 pub use state::StateLines;
-pub use words::{print_ignored, print_words};
+pub use words::{print_ignored, print_out_of_stage, print_words};

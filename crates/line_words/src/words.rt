@@ -164,3 +164,8 @@ pub fn print_ignored<A: Allocator, W: Write>(out: &mut W, input: &Inbound<A>) ->
         Inbound::Expiry { .. } | Inbound::Operator(_) => write!(out, "; ignored: no such cell"),
     }
 }
+
+/// Prints that no row goes on with a message at the stage that its call is in, behind its words.
+pub fn print_out_of_stage<W: Write>(out: &mut W) -> io::Result<()> {
+    write!(out, "; ignored: this stage doesn't expect it")
+}

@@ -12,6 +12,7 @@
 mod attempts;
 mod bars;
 mod chart_rows;
+mod ignored;
 mod lanes;
 mod live_viewer;
 mod options;

@@ -1,5 +1,6 @@
 //! A listener that views a run.
 use crate::chart_rows::RunChart;
+use crate::ignored::{is_ignored, is_out_of_stage};
 use crate::options::Views;
 use capture::RunCapture;
 use cell_table::SiteFault;
@@ -7,7 +8,9 @@ use ho_procedure::exchange::Outbound;
 use lab_runs::listener::{Listener, print_no_site, print_unreadable};
 use lab_runs::run::LabFault;
 use lab_runs::turn::{Answer, Turn};
-use line_words::{Calls, Content, StateLines, content_of, print_ignored, print_words};
+use line_words::{
+    Calls, Content, StateLines, content_of, print_ignored, print_out_of_stage, print_words,
+};
 use radio_book::book::Book;
 use std::alloc::{AllocError, Allocator, Global};
 use std::io::{self, Write};
@@ -29,14 +32,6 @@ pub struct Viewer<'a, W: Write, A: Allocator + Copy = Global> {
     /// How many messages of the answer that is told now, or was told last, were shown.
     shown: usize,
     alloc: A,
-}
-
-/// Whether nothing was asked for an input, and nothing is sent.
-fn is_ignored<A: Allocator>(turn: &Turn<A>) -> bool {
-    match &turn.answer {
-        Answer::Sent(sent) => turn.steps.is_empty() && sent.is_empty(),
-        Answer::Undecoded(_) => false,
-    }
 }
 
 impl<'a, W: Write, A: Allocator + Copy> Viewer<'a, W, A> {
@@ -120,11 +115,23 @@ impl<'a, W: Write, A: Allocator + Copy> Viewer<'a, W, A> {
         Ok(writeln!(self.out)?)
     }
 
+    /// Says whether nothing comes of an input.
+    fn show_ignored(&mut self, turn: &Turn<A>) -> Result<(), LabFault> {
+        if is_ignored(turn) {
+            return Ok(print_ignored(self.out, &turn.input)?);
+        }
+        let content = content_of(self.alloc, &TraceLine::Input(&turn.input))?;
+        if is_out_of_stage(turn, &content) {
+            print_out_of_stage(self.out)?;
+        }
+        Ok(())
+    }
+
     /// Shows the line of an input, with words also whether nothing comes of it.
     fn show_input(&mut self, mark: Mark, turn: &Turn<A>) -> Result<(), LabFault> {
         self.begin_line(mark, &TraceLine::Input(&turn.input))?;
-        if self.words && is_ignored(turn) {
-            print_ignored(self.out, &turn.input)?;
+        if self.words {
+            self.show_ignored(turn)?;
         }
         Ok(writeln!(self.out)?)
     }

@@ -1,0 +1,88 @@
+//! Inputs that come to nothing.
+use channel_fsm::ChanState;
+use ho_procedure::exchange::Inbound;
+use lab_runs::turn::{Answer, Turn};
+use line_words::Content;
+use radio_book::event::{Event, Reply};
+use rsl_messages::Rsl;
+use std::alloc::Allocator;
+use trace_text::trace::Step;
+
+/// Whether nothing was asked for an input, and nothing is sent.
+pub(crate) fn is_ignored<A: Allocator>(turn: &Turn<A>) -> bool {
+    match &turn.answer {
+        Answer::Sent(sent) => turn.steps.is_empty() && sent.is_empty(),
+        Answer::Undecoded(_) => false,
+    }
+}
+
+/// Whether an input is a message.
+fn is_message<A: Allocator>(input: &Inbound<A>) -> bool {
+    match input {
+        Inbound::Abis { .. } | Inbound::A { .. } => true,
+        Inbound::Expiry { .. } | Inbound::Operator(_) => false,
+    }
+}
+
+/// Whether an event only asks.
+fn is_question(event: Event) -> bool {
+    match event {
+        Event::Look(_) | Event::Owner(_) => true,
+        Event::Open(..)
+        | Event::Clear(_)
+        | Event::Take(..)
+        | Event::Reserve(..)
+        | Event::Activate(_)
+        | Event::Undo(..)
+        | Event::Command(_)
+        | Event::Complete(_)
+        | Event::Require(_)
+        | Event::Order(_)
+        | Event::Left(_)
+        | Event::Confirm(_)
+        | Event::Refuse(_)
+        | Event::Released(_)
+        | Event::Detect(_) => false,
+    }
+}
+
+/// Whether a step changed nothing: it asked, or was refused.
+fn changed_nothing(step: Step) -> bool {
+    match step {
+        Step::Asked(event, reply) => is_question(event) || !reply.is_accepted(),
+        Step::NoneFree(..) => false,
+    }
+}
+
+/// Whether the book replied that a channel serves its call and is on.
+fn serves<A: Allocator>(step: Step, content: &Content<A>) -> bool {
+    match (step, content) {
+        (Step::Asked(_, Reply::Record(record, Some(ChanState::On(_)))), Content::Abis(place, _)) => {
+            place.chan.is_some() && record.serving == place.chan
+        }
+        _ => false,
+    }
+}
+
+/// Whether an input is a report of a mobile that is noted: that of the channel that serves its call (TS 48.058 clause 8.4.8).
+fn is_noted<A: Allocator>(steps: &[Step], content: &Content<A>) -> bool {
+    matches!(
+        content,
+        Content::Abis(_, Some(Rsl::MeasurementResult { .. }))
+    ) && steps.iter().any(|step| serves(*step, content))
+}
+
+/// Whether an input is a message that no row goes on with at the stage that its call is in: the book was asked, nothing
+/// changed, and nothing is sent. A report that is noted isn't one.
+pub(crate) fn is_out_of_stage<A: Allocator>(turn: &Turn<A>, content: &Content<A>) -> bool {
+    match &turn.answer {
+        Answer::Sent(sent) => {
+            sent.is_empty()
+                && !turn.steps.is_empty()
+                && is_message(&turn.input)
+                && turn.steps.iter().all(|step| changed_nothing(*step))
+                && !is_noted(&turn.steps, content)
+        }
+        Answer::Undecoded(_) => false,
+    }
+}

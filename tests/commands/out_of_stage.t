@@ -1,0 +1,21 @@
+A message that no row goes on with at the stage that its call is in: the book is asked, nothing changes, nothing is sent.
+Another of the same name is expected, and so is a report of the serving channel.
+
+  $ cat >script.txt <<'END'
+  > abis 0 0 0833010b
+  > open 1 0 0 3
+  > abis 0 0 0822010b080000
+  > abis 0 0 0822010b080000
+  > abis 0 0 0302010b02000b0003062c00
+  > a 1 000c131709062bd5670ba36b2a05
+  > END
+  $ ./lab run examples/two_cells.toml script.txt --words | grep '^in a'
+  in abis 0 0 0833010b # no call; RF CHANNEL RELEASE ACK tn=3; ignored: this stage doesn't expect it
+  in abis 0 0 0822010b080000 # call 1; CHANNEL ACTIVATION ACK tn=3 frame=0
+  in abis 0 0 0822010b080000 # call 1; CHANNEL ACTIVATION ACK tn=3 frame=0; ignored: this stage doesn't expect it
+  in abis 0 0 0302010b02000b0003062c00 # call 1; DATA INDICATION tn=3 link=0 layer3=062c00; HANDOVER COMPLETE cause=0; normal event; ignored: this stage doesn't expect it
+  in a 1 000c131709062bd5670ba36b2a05 # call 1; HANDOVER COMMAND layer3=062bd5670ba36b2a05; HANDOVER COMMAND arfcn=871 ncc=2 bcc=5 tn=3 tsc=5 carrier=875 reference=42 atc=0 power=5; ignored: this stage doesn't expect it
+  $ report=$(./lab encode abis 'MEASUREMENT RESULT tn=3 number=0 uplink=001e00 power=0 layer3=06151e1e006812a000000000000000000000')
+  $ printf "open 1 0 0 3\nabis 0 0 $report\nabis 0 0 0822010b080000\nabis 0 0 $report\n" >report.txt
+  $ ./lab run examples/two_cells.toml report.txt --words | grep "^in abis 0 0 $report" | grep -c ignored
+  1
