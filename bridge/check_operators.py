@@ -18,7 +18,7 @@ from stream import Times, Writer
 
 def operators(start, room, _program):
     """Operators at the control socket get what came of their lines, and no other's; simulators aren't to be had."""
-    bridge = start("--control", "control")
+    bridge = start("--control", "control", "--log", "log")
     bridge.station(FIRST)
 
     def ask(text):
@@ -31,6 +31,10 @@ def operators(start, room, _program):
     must(ask("stations\n").startswith("station 6969/0/0"), "no answer about stations")
     must(ask("sim\n").startswith("refused: sim: sim is for simulators"), "simulators are attached")
     must("clear CALL: a call ends" in ask("help\n"), "no help")
+    counted = ask("summary\n").split("\n")
+    must(counted[0].split() == ["summary", "all", "1", "calls", "opened"], f"no summary: {counted}")
+    must(all(line.startswith("summary ") for line in counted), f"more than a summary: {counted}")
+    must(ask("summary\nlook\n").count("calls opened") == 2, "an answer is lost behind a summary")
     must(re.match("line 3\nrefused: nonsense: .*found nonsense$", ask("nonsense\n")), "no answer to what can't be read")
     must((room / "control").stat().st_mode & 0o077 == 0, "others may write to the socket")
     # the end of standard input isn't the bridge's here
@@ -39,6 +43,7 @@ def operators(start, room, _program):
     bridge.process.send_signal(signal.SIGINT)
     bridge.wait(0)
     must(not (room / "control").exists(), "the socket stays")
+    must("summary" not in (room / "log").read_text(), "the log has a line that no script has")
 
 
 def torn_line(start, room, _program):

@@ -18,6 +18,7 @@ HELP = """\
 stations: the stations: since when each is there, its channels, its messages
 calls: the channels in use: of which call and since when, how the station has them, and whether that agrees; lost calls
 watch: from here on all that the controller prints; watch CALL: what comes of this call; watch off: no more of that
+summary: what came so far, counted in all and for each cell: calls, attempts at handover and their ends, messages, faults
 help: this
 open CALL CELL TRX TN: a call begins on a channel, TN as 3, or 3/0 and 3/1 for halves of a timeslot
 seize CALL CELL RATE: a call begins on the lowest free channel of a cell, RATE full or half
@@ -89,7 +90,7 @@ class Watched:
 
     def see(self, line):
         """Which lines are of the call, now that another has come."""
-        if line.startswith((b"in ", b"line ", b"end ")):
+        if line.startswith((b"in ", b"line ", b"end ", b"summary ")):
             self.lines, self.is_named = [], False
         self.is_named = self.is_named or (self.names.match(line) and not line.startswith(b"in abis")) is True
         self.lines = [*self.lines[-MOST_LINES:], line]

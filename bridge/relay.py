@@ -22,6 +22,8 @@ DISARMING = ("complete", "undo", "left")
 CAME = re.compile(rb"in abis (\d+) (\d+) ([0-9a-f]*)")
 SENT = re.compile(rb"out abis (\d+) (\d+) ([0-9a-f]*)")
 SENT_ON_A = re.compile(rb"out a (\d+) ([0-9a-f]*)")
+# The first of the lines that answer what came so far (docs/PROGRAM.md, live).
+FIRST_OF_SUMMARY = re.compile(rb"summary all +\d+ calls opened")
 # Why the controller can't read a line, by its number, and how long that is waited for.
 REASON = re.compile(rb"standard input:(\d+): (.*)")
 SOON = 2.0
@@ -92,7 +94,7 @@ class Relay:
 
     def hear(self, line):
         """Hears a line of the controller, and does what it says."""
-        if line.startswith((b"in ", b"line ")):
+        if line.startswith((b"in ", b"line ")) or FIRST_OF_SUMMARY.match(line):
             self.begin_answer(line)
         if isinstance(self.giver, Operator):
             self.giver.hear(line)
@@ -128,13 +130,14 @@ class Relay:
             self.release_stray(Channel.of(event.about))
 
     def begin_answer(self, line):
-        """The controller begins to answer the next line that it has. One that it could read goes to the log."""
+        """The controller begins to answer the next line that it has. One that gives something goes to the log: not one that asks for
+        a summary, which no script has."""
         if not self.given:
             return
         text, self.giver, self.answered = self.given.popleft()
         if line.startswith(b"line "):
             self.unreadable[int(line.split()[1])] = (text, self.giver)
-        elif self.log:
+        elif self.log and not line.startswith(b"summary "):
             self.log.write(text, None if isinstance(self.giver, Station) else self.giver)
 
     def await_reason(self, number):

@@ -149,3 +149,44 @@ behind the one before it; the ninth lies on the eighth. (Headings have 16 letter
   9
   $ sed -n 's/^<rect x="\([0-9]*\)" y="[0-9]*" width="11" height="[0-9]*" fill="url(#hatched)".*/\1/p' run.svg | tail -n 9 | paste -sd ' '
   220 236 252 268 284 300 316 332 332
+
+Each station has a lane, by the number of its cell, where a message comes or goes; then stand controller and switching centre.
+Arrows go between the lanes of those who say and hear it. (Lanes and arrows are found by where they stand.)
+
+  $ cat >arrows.py <<'END'
+  > import re
+  > text = open("run.svg").read()
+  > bold = re.search('<g font-weight="bold">(.*?)</g>', text, re.DOTALL)[1]
+  > lanes = {x: name for x, name in re.findall('<text x="([0-9]*)".*>(.*)</text>', bold)}
+  > print(", ".join(lanes.values()))
+  > for start, end, said in re.findall('<line x1="([0-9]*)" .* x2="([0-9]*)" .*marker-end.*\n<text .*>(.*)</text>', text):
+  >     print(f"{lanes[start]} to {lanes[end]}: {said}")
+  > END
+  $ ./lab run examples/two_cells.toml examples/handover_returns.txt --chart run.svg >printed
+  $ python3 arrows.py
+  station 0, station 1, controller, switching centre
+  controller to station 0: 0/0/3 CHANNEL ACTIVATION, call 1
+  station 0 to controller: 0/0/3 CHANNEL ACTIVATION ACK, call 1
+  controller to station 1: 1/1/3 CHANNEL ACTIVATION, call 1
+  station 1 to controller: 1/1/3 CHANNEL ACTIVATION ACK, call 1
+  controller to station 0: 0/0/3 DATA REQUEST: HANDOVER COMMAND, call 1
+  station 0 to controller: 0/0/3 DATA INDICATION: HANDOVER FAILURE, call 1
+  controller to station 1: 1/1/3 RF CHANNEL RELEASE, call 1
+  station 1 to controller: 1/1/3 RF CHANNEL RELEASE ACK, call 1
+  $ ./lab run examples/two_cells.toml examples/handover_between.txt --peer examples/one_cell.toml --chart run.svg >printed
+  $ python3 arrows.py | head -n 6
+  station 0 of 1, controller 1, switching centre, controller 2, station 0 of 2
+  controller 1 to station 0 of 1: 0/0/3 CHANNEL ACTIVATION, call 1
+  station 0 of 1 to controller 1: 0/0/3 CHANNEL ACTIVATION ACK, call 1
+  controller 1 to switching centre: HANDOVER REQUIRED, call 1
+  switching centre to controller 2: HANDOVER REQUEST, call 40000
+  controller 2 to station 0 of 2: 0/0/1 CHANNEL ACTIVATION, call 40000
+  $ printf 'open 1 1 1 3\n' >one.txt
+  $ ./lab run examples/two_cells.toml one.txt --chart run.svg >printed
+  $ python3 arrows.py
+  station 1, controller, switching centre
+  controller to station 1: 1/1/3 CHANNEL ACTIVATION, call 1
+  $ printf 'clear 1\n' >none.txt
+  $ ./lab run examples/two_cells.toml none.txt --chart run.svg >printed
+  $ python3 arrows.py
+  controller, switching centre

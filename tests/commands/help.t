@@ -20,6 +20,10 @@ What commands are for, and what their words are. No line has more than 100 colum
   $ grep -qF -- '--pcap <FILE>' help
   $ grep -qF -- '--chart <FILE>' help
   $ grep -qF -- --audit help
+  $ grep -qF -- --summary help
+  $ grep -qF -- --json help
+  $ grep -qF -- --lines help
+  $ grep -qF -- '--call <N>' help
 
   $ ./lab help run >help
   $ awk 'length > 100' help

@@ -46,6 +46,17 @@ fn audit_told<W: Write>(
     }
 }
 
+/// What a run came to, once it was printed what was counted of it, where that was asked for.
+fn summed<W: Write>(
+    alloc: Global,
+    ended: Result<Option<Audits>, LabFault>,
+    viewer: &mut Viewer<'_, W>,
+) -> Result<Option<Audits>, LabFault> {
+    let audits = ended?;
+    viewer.print_summary(alloc)?;
+    Ok(audits)
+}
+
 /// The same with a viewer that prints to a writer which counts lines, and writes what the viewer gathered to the files of its
 /// views, where something was run.
 fn run_counted<F: Write + OpenFile + Drop, W: Write, E: Write>(
@@ -57,7 +68,12 @@ fn run_counted<F: Write + OpenFile + Drop, W: Write, E: Write>(
     errors: &mut E,
 ) -> Result<Ended, LabFault> {
     let mut viewer = Viewer::new(alloc, asked.views, asked.peer.is_some(), out)?;
-    let ended = audit_told(alloc, asked, &mut viewer, printed);
+    viewer.note_script(asked.script)?;
+    let ended = summed(
+        alloc,
+        audit_told(alloc, asked, &mut viewer, printed),
+        &mut viewer,
+    );
     let written = if viewer.has_begun() {
         sheets.finish(&viewer, errors)
     } else {
@@ -79,9 +95,10 @@ fn run_viewed<F: Write + OpenFile + Drop, W: Write, E: Write>(
     run_counted(alloc, asked, sheets, &printed, &mut counted, errors)
 }
 
-/// Runs a script with views, as [`run_for`](lab_runs::run::run_for) does, tells what comes of it, and prints behind the trace's
-/// end what the audits of its controllers come to ([`print_audits`]). The files of the views are written once the run ended,
-/// but not where nothing is run. The answer is `Refused` then, else `Done` or `Differs` by the audits.
+/// Runs a script with views, as [`run_for`](lab_runs::run::run_for) does, tells what comes of it, and prints behind the
+/// trace's end, and behind its summary where that is asked for, what the audits of its controllers come to
+/// ([`print_audits`]). The files of the views are written once the run ended, but not where nothing is run. The answer is
+/// `Refused` then, else `Done` or `Differs` by the audits.
 pub fn audit_viewed<F: Write + OpenFile + Drop, W: Write, E: Write>(
     alloc: Global,
     asked: AskedRun<'_>,

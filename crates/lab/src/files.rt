@@ -176,6 +176,17 @@ pub(crate) fn ended_viewed(
     Ok(status)
 }
 
+/// How a run ended, once it was printed what it came to, where it came to its end and that was asked for.
+fn summed<W: Write>(
+    alloc: Global,
+    ended: Result<Status, LabFault>,
+    viewer: &mut Viewer<'_, W>,
+) -> Result<Status, LabFault> {
+    let status = ended?;
+    viewer.print_summary(alloc)?;
+    Ok(status)
+}
+
 /// Runs a script over sites, all given as texts, with the views that are asked for; nothing where one of their files can't be
 /// opened, and then its path was printed, and on `errors` why. What came of the run until it ended, be it early, is written;
 /// but nothing where nothing was run, as where the script or a site is refused, so that the files are as they were.
@@ -193,7 +204,9 @@ fn run_viewed<R: Files + AllocGlobal, W: Write, E: Write>(
     };
     let peer = sites.peer();
     let mut viewer = Viewer::new(alloc, views, peer.is_some(), out)?;
+    viewer.note_script(script)?;
     let ended = run_for(alloc, alloc, sites.first(), peer, script, &mut viewer);
+    let ended = summed(alloc, ended, &mut viewer);
     let written = if viewer.has_begun() {
         sheets.finish(&viewer, errors)
     } else {
@@ -254,8 +267,10 @@ fn say_ended<E: Write>(
 /// but not where a site or the script is refused; one that can't be opened is refused as one that can't be read, and so
 /// is, before anything is read, one that is another file of the run. One file that is made for both is refused then.
 ///
+/// Where a summary is asked for, what the run came to stands behind the trace's end, in words or as one JSON object.
+///
 /// Where an audit is asked for, all settled attempts are taken out of what each controller was asked, at the end, and what
-/// that comes to is printed behind the trace's end ([`audit_viewed`]): the answer is `Differs` where something differs then.
+/// that comes to is printed behind that ([`audit_viewed`]): the answer is `Differs` where something differs then.
 ///
 /// The site's file is read first, then the peer's, then the script's. Where a file isn't there, can't be read, isn't
 /// UTF-8 or has more than [`LONGEST_FILE`] octets, `file` and its path are printed and nothing else, and the answer is

@@ -1,8 +1,9 @@
-//! The laboratory of the base station controller: what its commands do with files. `run` runs a script, with views of the run
-//! beside its trace; `live` runs the lines of standard input as they come; `rewind` takes an undone attempt out of a trace,
-//! `audit` all of them; `check` shows the cells of a site and what is surely meant otherwise; `decode` shows one message in
-//! words or those of many lines, `encode` a message's octets, `explain` a number in words; `test` and `record` are for scripts
-//! that test themselves; `storm` moves many calls at once, handled by workers on threads.
+//! The laboratory of the base station controller: what its commands do with files. `run` runs a script, with views of the
+//! run beside its trace; `live` runs the lines of standard input as they come; `rewind` takes an undone attempt out of a
+//! trace, `audit` all of them, `summary` counts what one tells; `check` shows the cells of a site and what is surely meant
+//! otherwise; `decode` shows one message in words or those of many lines, `encode` a message's octets, `explain` a number
+//! in words; `test` and `record` are for scripts that test themselves; `storm` moves many calls at once, handled by workers
+//! on threads.
 //!
 //! Runs, tests and records of scripts, traces that are read back, and the words of the command line, are crates below, exported
 //! here too, as are the controller's inputs and outputs (`exchange`), the reader of scripts (`script`) and the trace (`trace`,
@@ -23,6 +24,7 @@ mod script_notes;
 mod script_sites;
 pub mod site_files;
 pub mod storm;
+pub mod summaries;
 pub mod trace_files;
 mod undecoded;
 mod view_paths;

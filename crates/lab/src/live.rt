@@ -7,7 +7,7 @@ use crate::view_paths::{is_site, refuse_twice};
 use cell_table::Site;
 use lab_runs::listener::Printing;
 use lab_runs::run::{LabFault, Status, refuse_site};
-use live_runs::{LiveFault, LivePrinting, live_run};
+use live_runs::{LiveFault, live_run};
 use run_views::{LiveViewer, Views, open_sheets};
 use screen_text::Reason;
 use std::alloc::Global;
@@ -70,7 +70,8 @@ fn live_viewed<R: Files + AllocGlobal, I: BufRead, W: Write, E: Write>(
 
 /// Runs a controller over the site of a file, by the lines of `input` as they come, and prints the trace to `out`, as
 /// [`live_run`] tells it; `out` is flushed behind each line. Of the views that are asked for, words and states are printed
-/// with the lines, and the capture's file is emptied when the site was read, and then grows with each line.
+/// with the lines, and the capture's file is emptied when the site was read, and then grows with each line. The line `summary`
+/// is answered by what came so far, counted.
 ///
 /// The file and its site are refused as [`run_files`](crate::files::run_files) refuses them, before anything of `input` is read.
 /// The answer is `Done` at the end of `input`, and `Refused` where the file or the site is, where the capture's file can't be
@@ -94,16 +95,5 @@ pub fn live_file<R: Files + AllocGlobal, I: Read + Drop, W: Write, E: Write>(
     let alloc = rt.alloc();
     // a buffer lacks nothing but memory
     let mut reader = BufReader::new(alloc, input).map_err(|_| LabFault::NoMemory)?;
-    if views.is_plain() {
-        let ended = live_run(
-            alloc,
-            site,
-            &mut reader,
-            &mut LivePrinting::new(out),
-            errors,
-        );
-        ended_live(ended, errors)
-    } else {
-        live_viewed(rt, site, views, &mut reader, out, errors)
-    }
+    live_viewed(rt, site, views, &mut reader, out, errors)
 }

@@ -6,7 +6,8 @@ use crate::explained::explain;
 use crate::files::run_files;
 use crate::live::live_file;
 use crate::script_files::{record_file, test_files, try_undos_files};
-use crate::trace_files::{audit_files, rewind_files};
+use crate::summaries::summary_file;
+use crate::trace_files::{audit_files, rewind_all_files, rewind_files};
 use crate::undecoded::say_undecoded;
 use decoded_lines::answer_file;
 use explanations::Question;
@@ -56,13 +57,14 @@ fn decode<W: Write, E: Write>(
 
 /// Does what the words of a command line ask for, those after the program's own name: runs a script over a site
 /// ([`run_files`]), runs the lines of `input` as they come ([`live_file`]), takes an undone attempt out of a trace and says
-/// whether the rest comes to the same ([`rewind_files`]), or all of them ([`audit_files`]), tests scripts ([`test_files`]), takes
-/// each attempt of theirs back at each point ([`try_undos_files`]) or records one ([`record_file`]), prints the cells of a site
-/// ([`check_file`]), prints a message in words ([`decode_run`]) or those of many lines ([`answer_file`]), prints a message's
-/// octets ([`encode_run`]), says in words what a number stands for ([`explain`]), or shows help or the version. `input` is
-/// standard input. What it prints goes to `out`; why words, a site, a file or a message are refused goes to `errors`.
-/// It ends as the command does ([`Status`], [`LabFault`]); words that are refused are `Refused`, help and the version `Done`.
-/// It waits for no thread: a storm, which does, is refused here, and is run by
+/// whether the rest comes to the same ([`rewind_files`]), each ([`rewind_all_files`]) or all of them together
+/// ([`audit_files`]), counts what a trace tells ([`summary_file`]), tests scripts ([`test_files`]), takes each attempt of
+/// theirs back at each point ([`try_undos_files`]) or records one ([`record_file`]), prints the cells of a site
+/// ([`check_file`]), prints a message in words ([`decode_run`]) or those of many lines ([`answer_file`]), prints a
+/// message's octets ([`encode_run`]), says in words what a number stands for ([`explain`]), or shows help or the version.
+/// `input` is standard input. What it prints goes to `out`; why words, a site, a file or a message are refused goes to
+/// `errors`. It ends as the command does ([`Status`], [`LabFault`]); words that are refused are `Refused`, help and the
+/// version `Done`. It waits for no thread: a storm, which does, is refused here, and is run by
 /// [`storm_file`](crate::storm::storm_file) for who looks for it first ([`storm_asked`](crate::storm::storm_asked)).
 ///
 /// No clause says what is printed, nor which words end how: that is shown by tests.
@@ -93,7 +95,9 @@ pub fn perform<R: Files + AllocGlobal, I: Read + Drop, W: Write, E: Write>(
             },
         ) => record_file(rt, sites, script, recording, out, errors),
         Ok(Job::Rewind { site, trace, line }) => rewind_files(rt, site, trace, line, out, errors),
+        Ok(Job::RewindAll { sites, trace }) => rewind_all_files(rt, sites, trace, out, errors),
         Ok(Job::Audit { site, trace }) => audit_files(rt, site, trace, out, errors),
+        Ok(Job::Summary { trace, form }) => summary_file(rt, trace, form, out, errors),
         Ok(Job::Storm { .. }) => refuse_words(STORM_ALONE, errors),
         Ok(Job::Check { site }) => check_file(rt, site, out, errors),
         Ok(Job::Decode { link, text }) => decode(rt.alloc(), link, text, out, errors),

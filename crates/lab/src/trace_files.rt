@@ -1,6 +1,7 @@
 //! Attempts that are taken out of the traces in files.
 use crate::files::text_of;
-use crate::site_files::say_site;
+use crate::site_files::{SitePaths, SiteTexts, say_reasons, say_site, site_texts};
+use attempt_lists::{is_of_two, list_run, side_text};
 use audits::traced::audit_run;
 use lab_runs::run::{LabFault, Status};
 use read_traces::reasons::say_untold;
@@ -9,6 +10,7 @@ use screen_text::Escaped;
 use std::alloc::Global;
 use std::io::{self, Write};
 use std::rt::Files;
+use trace_text::trace::Mark;
 
 /// The texts of a site and of a trace.
 #[derive(Drop)]
@@ -93,6 +95,97 @@ pub fn rewind_files<R: Files + AllocGlobal, W: Write, E: Write>(
         && !say_no_events(trace, &texts.trace, errors)?
     {
         say_no_attempt(trace, line, errors)?;
+    }
+    Ok(status)
+}
+
+/// The texts of the sites and of a trace.
+#[derive(Drop)]
+struct SidesTexts {
+    sites: SiteTexts,
+    trace: String,
+}
+
+/// The texts of the sites' files and of a trace's, of which those of the sites are read first; nothing where one can't be
+/// read, and then the path of the first such was printed, and on `errors` why.
+fn sides_texts<R: Files + AllocGlobal, W: Write, E: Write>(
+    rt: &R,
+    sites: SitePaths<'_>,
+    trace: &str,
+    out: &mut W,
+    errors: &mut E,
+) -> Result<Option<SidesTexts>, LabFault> {
+    let Some(sites) = site_texts(rt, sites, out, errors)? else {
+        return Ok(None);
+    };
+    let Some(trace) = text_of(rt, trace, out, errors)? else {
+        return Ok(None);
+    };
+    Ok(Some(SidesTexts { sites, trace }))
+}
+
+/// Says why the lines of one of two controllers are refused; answers whether they are.
+fn say_refused_side<E: Write>(
+    alloc: Global,
+    mark: Mark,
+    site: &str,
+    path: &str,
+    trace: &str,
+    errors: &mut E,
+) -> Result<bool, LabFault> {
+    let side = side_text(alloc, mark, trace)?;
+    say_untold(alloc, site, path, &side, "rewind --all", errors)
+}
+
+/// Says why sites or a trace, of one controller or of two, are refused; answers whether they are.
+fn say_refused_sides<E: Write>(
+    alloc: Global,
+    sites: SitePaths<'_>,
+    path: &str,
+    texts: &SidesTexts,
+    errors: &mut E,
+) -> Result<bool, LabFault> {
+    if say_reasons(alloc, sites, &texts.sites, errors)? {
+        return Ok(true);
+    }
+    let (site, trace) = (texts.sites.first(), texts.trace.as_str());
+    match texts.sites.peer() {
+        Some(peer) if is_of_two(trace) => {
+            Ok(
+                say_refused_side(alloc, Mark::First, site, path, trace, errors)?
+                    || say_refused_side(alloc, Mark::Peer, peer, path, trace, errors)?,
+            )
+        }
+        Some(_) | None => say_untold(alloc, site, path, trace, "rewind without --peer", errors),
+    }
+}
+
+/// Whether no line of a text is one of an event, of one controller or of two.
+fn has_no_event_of_any(text: &str) -> bool {
+    !text.split('\n').any(|line| line.starts_with("event ")
+        || line.starts_with("1: event ")
+        || line.starts_with("2: event "))
+}
+
+/// Takes each undone attempt out of the trace of one file by itself, over the sites of others, and prints a line for each, as
+/// [`list_run`] does of texts. Files and sites are refused as [`run_files`](crate::files::run_files) refuses them.
+pub fn rewind_all_files<R: Files + AllocGlobal, W: Write, E: Write>(
+    rt: &R,
+    sites: SitePaths<'_>,
+    trace: &str,
+    out: &mut W,
+    errors: &mut E,
+) -> Result<Status, LabFault> {
+    let alloc = rt.alloc();
+    let Some(texts) = sides_texts(rt, sites, trace, out, errors)? else {
+        return Ok(Status::Refused);
+    };
+    let (site, peer) = (texts.sites.first(), texts.sites.peer());
+    let status = list_run(alloc, alloc, site, peer, &texts.trace, out)?;
+    if status == Status::Refused {
+        let _ = say_refused_sides(alloc, sites, trace, &texts, errors)?;
+    } else if has_no_event_of_any(&texts.trace) {
+        writeln!(errors, "{}: no events: is this a trace?", Escaped(trace))?;
     }
     Ok(status)
 }

@@ -95,7 +95,8 @@ pub(crate) const RUN_HELP: &str = with_script_lines!(
     "",
     "
 
-With --audit three lines more stand at the end, which bsc_lab help audit explains.
+With --audit three lines more stand at the end, which bsc_lab help audit explains; with --summary
+those of bsc_lab help summary.
 
 Statuses: 0 the script was run, 1 with --audit: something differs, 2 a file, the site or a line of
 the script is refused, or what is printed can't be written, 3 memory was refused.
@@ -108,7 +109,8 @@ pub(crate) const LIVE_HELP: &str = with_script_lines!(
     "\
 Each line of standard input is handled as it comes, what comes of it is printed, and standard output
 is flushed behind it. A line that can't be read prints line N, and on standard error why, and changes
-nothing. Lines with 2: can't be read, nor lines of over 65,536 octets.
+nothing. Lines with 2: can't be read, nor lines of over 65,536 octets. The line summary is answered
+by what came so far, as bsc_lab help summary explains.
 
 ",
     "
@@ -182,7 +184,9 @@ As in: bsc_lab check site.toml";
 pub(crate) const REWIND_HELP: &str = "\
 Prints how many events are left (others), whether no release of the target is awaited (settled),
 the line of the first event that was refused for the attempt's sake (held), and whether the book
-and the replies are the same without the attempt.
+and the replies are the same without the attempt. With --all these stand in one line for each
+undone attempt, behind the line in which it opened, its call, its kind and its stage; others are the
+lines of events then.
 
 Statuses: 0 they are, 1 they differ, 2 a file, the site or a line of the trace is refused, or no
 undone attempt opens in the line, 3 memory was refused.
@@ -199,6 +203,17 @@ Statuses: 0 they are, 1 they differ, 2 a file, the site or a line of the trace i
 was refused.
 
 As in: bsc_lab audit site.toml run.trace";
+
+/// What stands behind the help of `summary`.
+pub(crate) const SUMMARY_HELP: &str = "\
+Prints a line for each figure: summary, all or a cell, how often it came, and what: calls that were
+opened and cleared, attempts at handover that began, were completed, or were undone for a cause, how
+often no channel was free, faults, and messages in and out by their names. With --json they are one
+object in one line.
+
+Statuses: 0 they were counted, 2 the file or a line of the trace is refused, 3 memory was refused.
+
+As in: bsc_lab summary run.trace";
 
 /// What stands behind the help of `decode`.
 pub(crate) const DECODE_HELP: &str = "\

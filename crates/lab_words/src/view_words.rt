@@ -1,6 +1,6 @@
 //! The words of a command line that ask for views of a run.
-use clap::{Arg, ArgAction, ArgMatches, Command};
-use run_views::Views;
+use clap::{Arg, ArgAction, ArgMatches, Command, value_parser};
+use run_views::{SummaryForm, Views};
 use std::alloc::{AllocError, Global};
 
 /// How a run ends.
@@ -63,16 +63,90 @@ fn chart_argument<'a>(alloc: Global) -> Arg<'a> {
         .help("Writes the run to this file, as a sequence chart in SVG")
 }
 
-/// Adds to a command the options `--words`, `--state`, `--pcap FILE` and `--chart FILE`.
+/// `--summary`
+fn summary_argument<'a>(alloc: Global) -> Arg<'a> {
+    Arg::new(alloc, "summary")
+        .long("summary")
+        .action(ArgAction::SetTrue)
+        .help("Prints at the end how many calls, attempts, messages and faults came, by cell")
+}
+
+/// `--json`
+pub(crate) fn json_argument<'a>(alloc: Global) -> Arg<'a> {
+    Arg::new(alloc, "json")
+        .long("json")
+        .action(ArgAction::SetTrue)
+        .help("Prints the summary as one JSON object")
+}
+
+/// Adds to a command the options `--summary` and `--json`.
+fn summary_options<'a>(alloc: Global, command: Command<'a>) -> Result<Command<'a>, AllocError> {
+    let json = json_argument(alloc).requires_arg("summary")?;
+    command.arg(summary_argument(alloc))?.arg(json)
+}
+
+/// How counts are shown that the words of a command with `--json` ask for.
+pub(crate) fn form_of(matches: &ArgMatches<'_>) -> SummaryForm {
+    if matches.get_flag("json") {
+        SummaryForm::Json
+    } else {
+        SummaryForm::Words
+    }
+}
+
+/// How counts are shown, where the words of a command with `--summary` ask for them.
+fn summary_of(matches: &ArgMatches<'_>) -> Option<SummaryForm> {
+    if matches.get_flag("summary") {
+        Some(form_of(matches))
+    } else {
+        None
+    }
+}
+
+/// `--lines`
+fn lines_argument<'a>(alloc: Global) -> Arg<'a> {
+    Arg::new(alloc, "lines")
+        .long("lines")
+        .action(ArgAction::SetTrue)
+        .help("Says behind each input which line of the script gave it, as in @12")
+}
+
+/// `--call N`
+fn call_argument<'a>(alloc: Global) -> Result<Arg<'a>, AllocError> {
+    Arg::new(alloc, "CALL")
+        .long("call")
+        .value_name("N")
+        .value_parser(value_parser!(u16))
+        .help("Shows, also on the chart, the lines about this call alone")
+        .conflicts_with("STATE")?
+        .conflicts_with("audit")
+}
+
+/// The call whose lines alone the words of a command ask for.
+fn call_of(matches: &ArgMatches<'_>) -> Option<u16> {
+    matches.get_one::<u16>("CALL")
+}
+
+/// Adds to a command the options `--lines` and `--call N`.
+fn line_options<'a>(alloc: Global, command: Command<'a>) -> Result<Command<'a>, AllocError> {
+    command
+        .arg(lines_argument(alloc))?
+        .arg(call_argument(alloc)?)
+}
+
+/// Adds to a command the options `--words`, `--state`, `--pcap FILE`, `--chart FILE`, `--summary`, `--json`, `--lines` and
+/// `--call N`.
 pub(crate) fn view_options<'a>(
     alloc: Global,
     command: Command<'a>,
 ) -> Result<Command<'a>, AllocError> {
-    command
+    let command = command
         .arg(words_argument(alloc))?
         .arg(state_argument(alloc))?
         .arg(pcap_argument(alloc))?
-        .arg(chart_argument(alloc))
+        .arg(chart_argument(alloc))?;
+    let command = summary_options(alloc, command)?;
+    line_options(alloc, command)
 }
 
 /// Adds to a command the options of views that are shown line by line: `--words`, `--state` and `--pcap FILE`.
@@ -93,6 +167,9 @@ pub(crate) fn live_views_of<'a>(matches: &ArgMatches<'a>) -> Views<'a> {
         state: matches.get_flag("STATE"),
         pcap: matches.get_str("PCAP"),
         chart: None,
+        summary: None,
+        lines: false,
+        call: None,
     }
 }
 
@@ -103,5 +180,8 @@ pub(crate) fn views_of<'a>(matches: &ArgMatches<'a>) -> Views<'a> {
         state: matches.get_flag("STATE"),
         pcap: matches.get_str("PCAP"),
         chart: matches.get_str("CHART"),
+        summary: summary_of(matches),
+        lines: matches.get_flag("lines"),
+        call: call_of(matches),
     }
 }

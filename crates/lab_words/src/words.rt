@@ -4,7 +4,7 @@ ghost use Rattle.std.specs.Prelude.{◌≡◌};
 use crate::explain_words::{explain_command, hexadecimal_question, question_of};
 use crate::help::{
     AUDIT_HELP, CHECK_HELP, DECODE_HELP, ENCODE_HELP, LIVE_HELP, REWIND_HELP, RUN_HELP,
-    with_messages,
+    SUMMARY_HELP, with_messages,
 };
 use crate::refused_words::refused_line;
 use crate::script_words::{
@@ -13,14 +13,15 @@ use crate::script_words::{
 use crate::site_paths::SitePaths;
 use crate::storm_words::{StormSize, storm_command, storm_size};
 use crate::view_words::{
-    Ending, audit_argument, ending_of, live_view_options, live_views_of, view_options, views_of,
+    Ending, audit_argument, ending_of, form_of, json_argument, live_view_options, live_views_of,
+    view_options, views_of,
 };
 use clap::error::ErrorKind;
 use clap::{Arg, ArgAction, ArgMatches, Command, Error, value_parser};
 use decoded_lines::{Asked, Detail, LinkName, link_named};
 use expectations::Recording;
 use explanations::Question;
-use run_views::Views;
+use run_views::{SummaryForm, Views};
 use std::alloc::{AllocError, Global};
 
 /// What the command line asks for.
@@ -51,6 +52,16 @@ pub enum Job<'a> {
     Audit {
         site: &'a str,
         trace: &'a str,
+    },
+    /// Each undone attempt is taken out of a trace by itself, of one controller or of two: the paths of the files.
+    RewindAll {
+        sites: SitePaths<'a>,
+        trace: &'a str,
+    },
+    /// What a trace came to is printed, counted: the trace's path, and how that is shown.
+    Summary {
+        trace: &'a str,
+        form: SummaryForm,
     },
     /// Each attempt of scripts is taken back at each point, over a site, or over two: the paths of the files.
     TryUndos {
@@ -181,14 +192,40 @@ fn check_command<'a>(alloc: Global) -> Result<Command<'a>, AllocError> {
         .arg(argument(alloc, "SITE", "The site file"))
 }
 
-/// `rewind SITE TRACE LINE`
+/// `rewind SITE TRACE LINE` or `rewind SITE TRACE --all [--peer SITE]`
 fn rewind_command<'a>(alloc: Global) -> Result<Command<'a>, AllocError> {
     Command::new(alloc, "rewind")
         .about("Takes an undone attempt at handover out of a trace, and compares what is left")
         .after_help(REWIND_HELP)
         .arg(argument(alloc, "SITE", "The site file"))?
         .arg(trace_argument(alloc))?
-        .arg(line_argument(alloc))
+        .arg(line_argument(alloc)?)?
+        .arg(all_argument(alloc)?)?
+        .arg(peer_argument(alloc).requires_arg("all")?)
+}
+
+/// `--all`
+fn all_argument<'a>(alloc: Global) -> Result<Arg<'a>, AllocError> {
+    Arg::new(alloc, "all")
+        .long("all")
+        .action(ArgAction::SetTrue)
+        .help("Prints a line for each undone attempt, also of two controllers")
+        .conflicts_with("LINE")
+}
+
+/// What the words of `rewind` ask for.
+fn rewind_job<'a>(rewind: &ArgMatches<'a>) -> Option<Job<'a>> {
+    if rewind.get_flag("all") {
+        return Some(Job::RewindAll {
+            sites: site_paths(rewind)?,
+            trace: rewind.get_str("TRACE")?,
+        });
+    }
+    Some(Job::Rewind {
+        site: rewind.get_str("SITE")?,
+        trace: rewind.get_str("TRACE")?,
+        line: rewind.get_one::<usize>("LINE")?,
+    })
 }
 
 /// `audit SITE TRACE`
@@ -198,6 +235,15 @@ fn audit_command<'a>(alloc: Global) -> Result<Command<'a>, AllocError> {
         .after_help(AUDIT_HELP)
         .arg(argument(alloc, "SITE", "The site file"))?
         .arg(trace_argument(alloc))
+}
+
+/// `summary TRACE [--json]`
+fn summary_command<'a>(alloc: Global) -> Result<Command<'a>, AllocError> {
+    Command::new(alloc, "summary")
+        .about("Prints how many calls, attempts, messages and faults a trace has, by cell")
+        .after_help(SUMMARY_HELP)
+        .arg(argument(alloc, "TRACE", "The trace, as run prints it"))?
+        .arg(json_argument(alloc))
 }
 
 /// `TRACE`
@@ -210,13 +256,12 @@ fn trace_argument<'a>(alloc: Global) -> Arg<'a> {
 }
 
 /// `LINE`
-fn line_argument<'a>(alloc: Global) -> Arg<'a> {
-    argument(
-        alloc,
-        "LINE",
-        "The line in which the attempt opens (event take or event require), counted from 1",
-    )
-    .value_parser(value_parser!(usize).range(1..))
+fn line_argument<'a>(alloc: Global) -> Result<Arg<'a>, AllocError> {
+    let argument = Arg::new(alloc, "LINE")
+        .action(ArgAction::Set)
+        .help("The line in which the attempt opens (event take or event require), counted from 1")
+        .value_parser(value_parser!(usize).range(1..));
+    argument.required_unless_present("all")
 }
 
 /// `decode LINK HEX`, `decode LINK --from FILE` or `decode --from FILE`
@@ -339,7 +384,8 @@ fn with_scripts<'a>(alloc: Global, command: Command<'a>) -> Result<Command<'a>, 
     let command = with(command, test_command(alloc))?;
     let command = with(command, record_command(alloc))?;
     let command = with(command, rewind_command(alloc))?;
-    with(command, audit_command(alloc))
+    let command = with(command, audit_command(alloc))?;
+    with(command, summary_command(alloc))
 }
 
 /// The commands of sites, storms, messages and numbers.
@@ -398,14 +444,14 @@ fn job_of<'a>(matches: &ArgMatches<'a>) -> Option<Job<'a>> {
             script: record.get_str("SCRIPT")?,
             recording: recording_of(record),
         }),
-        ("rewind", rewind) => Some(Job::Rewind {
-            site: rewind.get_str("SITE")?,
-            trace: rewind.get_str("TRACE")?,
-            line: rewind.get_one::<usize>("LINE")?,
-        }),
+        ("rewind", rewind) => rewind_job(rewind),
         ("audit", audit) => Some(Job::Audit {
             site: audit.get_str("SITE")?,
             trace: audit.get_str("TRACE")?,
+        }),
+        ("summary", summary) => Some(Job::Summary {
+            trace: summary.get_str("TRACE")?,
+            form: form_of(summary),
         }),
         ("storm", storm) => Some(Job::Storm {
             site: storm.get_str("SITE")?,

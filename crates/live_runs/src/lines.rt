@@ -44,7 +44,44 @@ fn refuse<A: Allocator + Copy, L: LiveListener<A>, E: Write>(
     Ok(())
 }
 
-/// Takes a line, or says that it can't be read; then the listener is told that no more comes of it.
+/// The line that asks what came so far, counted. It is none of a script, and changes nothing.
+const SUMMARY_LINE: &[u8] = b"summary";
+
+/// The same with the carriage return that may end a line.
+const SUMMARY_LINE_WITH_RETURN: &[u8] = b"summary\r";
+
+/// Whether a line asks what came so far.
+fn asks_summary(line: &[u8]) -> bool {
+    line == SUMMARY_LINE || line == SUMMARY_LINE_WITH_RETURN
+}
+
+/// Has a listener tell what came so far, where a line asks for it. The answer is whether it was told.
+fn tell_summary<A: Allocator + Copy, L: LiveListener<A>>(
+    line: &[u8],
+    listener: &mut L,
+) -> Result<bool, LiveFault> {
+    if asks_summary(line) {
+        Ok(listener.hear_summary()?)
+    } else {
+        Ok(false)
+    }
+}
+
+/// Answers a line that is none of a script: what it asks for, or that it can't be read.
+fn answer_other<A: Allocator + Copy, L: LiveListener<A>, E: Write>(
+    number: usize,
+    line: &[u8],
+    has_sim: bool,
+    listener: &mut L,
+    errors: &mut E,
+) -> Result<(), LiveFault> {
+    if tell_summary(line, listener)? {
+        return Ok(());
+    }
+    refuse(number, line, has_sim, listener, errors)
+}
+
+/// Takes a line, or answers one that is none of a script; then the listener is told that no more comes of it.
 fn take_line<A: Allocator + Copy, L: LiveListener<A>, E: Write>(
     live: &mut Live<A>,
     number: usize,
@@ -56,7 +93,7 @@ fn take_line<A: Allocator + Copy, L: LiveListener<A>, E: Write>(
     ensures takes { OnOk result (Takes line.now live.old live.new) }
 {
     if !live.take(line, listener)? {
-        refuse(number, line, live.course.has_simulators(), listener, errors)?;
+        answer_other(number, line, live.course.has_simulators(), listener, errors)?;
     }
     Ok(listener.hear_line_end(errors)?)
 }
@@ -132,9 +169,10 @@ fn run_to_end<A: Allocator + Copy, R: BufRead, L: LiveListener<A>, E: Write>(
 /// at once, and the listener is told what came of it, and that no more does, before the next line is read.
 ///
 /// A line is read as one of a script for one controller; its last one needs no line feed. One that can't be read changes
-/// nothing: the listener is told its number, counted from 1, and `errors` why. At the end of the reader the listener is told
-/// what the book holds. Where the reader's octets are known, the inputs that were handled are those of exactly the lines that
-/// can be read, in their order, however the reader cuts them; all other inputs are a simulator's by their source.
+/// nothing: the listener is told its number, counted from 1, and `errors` why; but of the line `summary` it is asked to
+/// tell what it counted. At the end of the reader the listener is told what the book holds. Where the reader's octets are
+/// known, the inputs that were handled are those of exactly the lines that can be read, in their order, however the reader
+/// cuts them; all other inputs are a simulator's by their source.
 ///
 /// `NoMemory`: memory was refused; the listener was told what is owed. `Write`: the listener or `errors` couldn't write. `Read`:
 /// the reader failed. After any of them what came before was handled.

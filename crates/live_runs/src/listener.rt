@@ -13,6 +13,11 @@ use trace_text::trace::{Mark, print_sent};
 pub trait LiveListener<A: Allocator + Copy>: Listener<A> {
     /// No more comes of this line: what was heard so far is handed on. What is to be told a person goes to `errors`.
     fn hear_line_end<E: Write>(&mut self, errors: &mut E) -> Result<(), LabFault>;
+
+    /// A line asks what came so far, counted. The answer is whether it was told: who counts nothing doesn't.
+    fn hear_summary(&mut self) -> Result<bool, LabFault> {
+        Ok(false)
+    }
 }
 
 /// A listener that prints the trace, and what is owed where memory is refused; behind each line it is flushed.

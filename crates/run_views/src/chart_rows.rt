@@ -1,7 +1,7 @@
 //! The rows of a chart.
 use crate::attempts::Attempts;
 use crate::bars::{Marked, bars_of, push_marked};
-use crate::lanes::{CENTRE, bars_are, controller, lane_names, stations};
+use crate::lanes::{Lanes, Post, bars_are};
 use chart::{Bar, Chart, Lane, Row, Shape, Side, text_room};
 use event_text::writing::EventText;
 use ho_procedure::exchange::Inbound;
@@ -16,21 +16,8 @@ use trace_text::trace::{InboundText, Mark, ReplyText, Step, TraceLine, UsageText
 #[derive(Clone, Copy)]
 enum Happening {
     Nothing,
-    Arrow { from: u32, to: u32 },
-    Note { lane: u32 },
-}
-
-impl Happening {
-    /// So much of the room between a lane and the next a text of so many letters needs: an arrow's between them all, a
-    /// note's at one of them a half.
-    fn needs(&self, lane: u32, letters: u32) -> u32 {
-        match self {
-            Happening::Arrow { from, to } if *from.min(to) == lane => letters,
-            Happening::Note { lane: at } if *at == lane || at.saturating_sub(1) == lane =>
-                letters.div_ceil(2),
-            Happening::Nothing | Happening::Arrow { .. } | Happening::Note { .. } => 0,
-        }
-    }
+    Arrow { from: Post, to: Post },
+    Note { at: Post },
 }
 
 /// A row, with its texts.
@@ -41,23 +28,80 @@ struct Drawn<A: Allocator = Global> {
     text: String<A>,
 }
 
-/// A row as a chart has it.
-fn row_of<A: Allocator>(drawn: &Drawn<A>) -> Row<'_> {
+/// A row as a chart with these lanes has it.
+fn row_of<'a, A: Allocator>(drawn: &'a Drawn<A>, lanes: &Lanes) -> Row<'a> {
     let text = drawn.text.as_str();
     Row {
         heading: drawn.heading.as_str(),
         shape: match drawn.happening {
             Happening::Nothing => Shape::Nothing,
-            Happening::Arrow { from, to } => Shape::Arrow { from, to, text },
-            Happening::Note { lane } => Shape::Note { lane, text },
+            Happening::Arrow { from, to } => Shape::Arrow {
+                from: lanes.place(from),
+                to: lanes.place(to),
+                text,
+            },
+            Happening::Note { at } => Shape::Note {
+                lane: lanes.place(at),
+                text,
+            },
         },
     }
+}
+
+/// So much of the room between a lane and the next the text of an arrow between two lanes needs: its part of it, where it
+/// goes over several.
+fn arrow_needs(from: u32, to: u32, lane: u32, letters: u32) -> u32 {
+    let first = from.min(to);
+    let gaps = from.abs_diff(to).max(1);
+    if lane >= first && lane - first < gaps {
+        letters.div_ceil(gaps)
+    } else {
+        0
+    }
+}
+
+/// So much of the room between a lane and the next a row's text needs: a note's at one of them a half.
+fn needs(shape: &Shape<'_>, lane: u32) -> u32 {
+    match shape {
+        Shape::Arrow { from, to, text } => arrow_needs(*from, *to, lane, text_room(text)),
+        Shape::Note { lane: at, text } if *at == lane || at.saturating_sub(1) == lane => text_room(
+            text,
+        ).div_ceil(2),
+        Shape::Nothing | Shape::Note { .. } => 0,
+    }
+}
+
+/// So many letters have to have room between a lane and the next.
+fn room_behind(rows: &[Row<'_>], lane: u32) -> u32 {
+    let mut room = 0;
+    for row in rows {
+        room = needs(&row.shape, lane).max(room);
+    }
+    room
+}
+
+/// The lanes with these names, with as much room as the texts between them need.
+fn lanes_of<'a, A: Allocator + Copy>(
+    alloc: A,
+    names: &'a [String<A>],
+    rows: &[Row<'_>],
+) -> Result<Vec<Lane<'a>, A>, AllocError> {
+    let mut lanes = Vec::new(alloc);
+    for name in names {
+        let room = room_behind(rows, count(&lanes));
+        lanes.push(Lane {
+            name: name.as_str(),
+            room,
+        })?;
+    }
+    Ok(lanes)
 }
 
 /// The chart of the lines that were added.
 #[derive(Drop)]
 pub struct RunChart<A: Allocator = Global> {
     has_peer: bool,
+    lanes: Lanes,
     inputs: u64,
     rows: Vec<Drawn<A>, A>,
     first: Attempts<A>,
@@ -65,11 +109,13 @@ pub struct RunChart<A: Allocator = Global> {
     alloc: A,
 }
 
-/// The place of the other end of a message, where there is a message.
-fn other_lane<A: Allocator>(mark: Mark, content: &Content<A>) -> Option<u32> {
+/// Who stands at the other end of a message, where there is a message.
+fn other_end<A: Allocator>(mark: Mark, content: &Content<A>) -> Option<Post> {
     match content {
-        Content::Abis(..) | Content::Rowless(..) => Some(stations(mark)),
-        Content::A(..) => Some(CENTRE),
+        Content::Abis(place, _) | Content::Rowless(place, _) => {
+            Some(Post::Station(mark, place.cell))
+        }
+        Content::A(..) => Some(Post::Centre),
         Content::Nothing => None,
     }
 }
@@ -128,6 +174,7 @@ impl<A: Allocator + Copy> RunChart<A> {
     pub fn new(alloc: A, has_peer: bool) -> RunChart<A> {
         RunChart {
             has_peer,
+            lanes: Lanes::new(has_peer),
             inputs: 0,
             rows: Vec::new(alloc),
             first: Attempts::new(alloc),
@@ -158,11 +205,11 @@ impl<A: Allocator + Copy> RunChart<A> {
 
     /// Adds a note at a controller.
     fn note(&mut self, mark: Mark, text: String<A>) -> Result<(), AllocError> {
-        let lane = controller(mark);
-        self.push(String::new(self.alloc), Happening::Note { lane }, text)
+        let at = Post::Controller(mark);
+        self.push(String::new(self.alloc), Happening::Note { at }, text)
     }
 
-    /// Adds the arrow of a message between a controller and another lane, where there is a message.
+    /// Adds the arrow of a message between a controller and somebody else, where there is a message.
     fn arrow(
         &mut self,
         heading: String<A>,
@@ -171,13 +218,14 @@ impl<A: Allocator + Copy> RunChart<A> {
         content: &Content<A>,
         call: Option<u16>,
     ) -> Result<(), AllocError> {
-        let Some(other) = other_lane(mark, content) else {
+        let Some(other) = other_end(mark, content) else {
             return Ok(());
         };
+        self.lanes.add(other);
         let (from, to) = if is_sent {
-            (controller(mark), other)
+            (Post::Controller(mark), other)
         } else {
-            (other, controller(mark))
+            (other, Post::Controller(mark))
         };
         let text = arrow_text(self.alloc, content, call)?;
         self.push(heading, Happening::Arrow { from, to }, text)
@@ -254,33 +302,25 @@ impl<A: Allocator + Copy> RunChart<A> {
         }
     }
 
+    /// Passes over a line that isn't shown: inputs keep their numbers.
+    pub(crate) fn pass_line(&mut self, line: &TraceLine<'_, A>) {
+        match line {
+            TraceLine::Input(_) => self.inputs = self.inputs.saturating_add(1),
+            TraceLine::Sent(_)
+            | TraceLine::Step(_)
+            | TraceLine::Fault(_)
+            | TraceLine::Limit
+            | TraceLine::End(_) => {}
+        }
+    }
+
     /// The rows as a chart has them.
     fn drawn(&self) -> Result<Vec<Row<'_>, A>, AllocError> {
         let mut rows = Vec::new(self.alloc);
         for row in &self.rows {
-            rows.push(row_of(row))?;
+            rows.push(row_of(row, &self.lanes))?;
         }
         Ok(rows)
-    }
-
-    /// So many letters have to have room between a lane and the next.
-    fn room_behind(&self, lane: u32) -> u32 {
-        let mut room = 0;
-        for row in &self.rows {
-            let letters = text_room(&row.text);
-            room = row.happening.needs(lane, letters).max(room);
-        }
-        room
-    }
-
-    /// The lanes, with as much room as the texts between them need.
-    fn lanes(&self) -> Result<Vec<Lane<'static>, A>, AllocError> {
-        let mut lanes = Vec::new(self.alloc);
-        for name in lane_names(self.has_peer) {
-            let room = self.room_behind(count(&lanes));
-            lanes.push(Lane { name: *name, room })?;
-        }
-        Ok(lanes)
     }
 
     /// The bars, with their texts.
@@ -294,8 +334,9 @@ impl<A: Allocator + Copy> RunChart<A> {
 
     /// Writes the chart as an SVG that stands alone. Nothing is written where memory is refused.
     pub fn write_to<W: Write>(&self, out: &mut W) -> Result<(), LabFault> {
-        let lanes = self.lanes()?;
         let rows = self.drawn()?;
+        let names = self.lanes.names(self.alloc)?;
+        let lanes = lanes_of(self.alloc, &names, &rows)?;
         let marked = self.marked()?;
         let bars = bars_of(self.alloc, &marked)?;
         Ok(print_chart(

@@ -1,42 +1,140 @@
 //! Who stands where.
 use chart::Side;
+use std::alloc::{AllocError, Allocator};
 use trace_text::trace::Mark;
 
-/// The lanes of one controller.
-const ALONE: &[&str] = &["stations", "controller", "switching centre"];
-
-/// The lanes of two, with the switching centre between them.
-const TWO: &[&str] = &[
-    "stations 1",
-    "controller 1",
-    "switching centre",
-    "controller 2",
-    "stations 2",
-];
-
-/// The names of the lanes.
-pub(crate) fn lane_names(has_peer: bool) -> &'static [&'static str] {
-    if has_peer { TWO } else { ALONE }
+/// Who stands at a lane.
+#[derive(Clone, Copy, Debug, PartialEq, Eq)]
+pub(crate) enum Post {
+    /// The station of a cell, of the controller with this mark.
+    Station(Mark, u8),
+    /// The controller with this mark.
+    Controller(Mark),
+    /// The switching centre.
+    Centre,
 }
 
-/// The place of a controller's stations.
-pub(crate) fn stations(mark: Mark) -> u32 {
-    match mark {
-        Mark::Alone | Mark::First => 0,
-        Mark::Peer => 4,
+/// The stations that have lanes: those with which a message was exchanged.
+#[derive(Clone, Copy)]
+struct Stations {
+    /// Whether the station of each cell is one.
+    has_lane: [bool; 256],
+}
+
+/// How many of these are.
+fn count(has_lane: &[bool]) -> u32 {
+    let mut count: u32 = 0;
+    for has_lane in has_lane {
+        if *has_lane {
+            count = count.saturating_add(1);
+        }
+    }
+    count
+}
+
+impl Stations {
+    /// None.
+    fn new() -> Stations {
+        Stations {
+            has_lane: [false; 256],
+        }
+    }
+
+    /// That of this cell has one.
+    fn add(&mut self, cell: u8) {
+        self.has_lane[cell as usize] = true;
+    }
+
+    /// How many there are.
+    fn len(&self) -> u32 {
+        count(&self.has_lane)
+    }
+
+    /// How many there are of cells with lower numbers.
+    fn below(&self, cell: u8) -> u32 {
+        count(&self.has_lane[..cell as usize])
     }
 }
 
-/// The place of a controller.
-pub(crate) fn controller(mark: Mark) -> u32 {
-    match mark {
-        Mark::Alone | Mark::First => 1,
-        Mark::Peer => 3,
-    }
+/// The lanes of one controller: its stations by the numbers of their cells, then it, then the switching centre. With a peer,
+/// the switching centre stands between the two, and the peer's stations at the right.
+#[derive(Drop)]
+pub(crate) struct Lanes {
+    has_peer: bool,
+    first: Stations,
+    peer: Stations,
 }
 
-/// The place of the switching centre.
-pub(crate) const CENTRE: u32 = 2;
+/// Adds the names of stations.
+fn push_stations<A: Allocator + Copy>(
+    alloc: A,
+    stations: &Stations,
+    controller: &str,
+    names: &mut Vec<String<A>, A>,
+) -> Result<(), AllocError> {
+    for (cell, has_lane) in stations.has_lane.iter().enumerate() {
+        if *has_lane {
+            names.push(format!(in alloc; "station {cell}{controller}")?)?;
+        }
+    }
+    Ok(())
+}
+
+impl Lanes {
+    /// Those of one controller, or of two, without a station.
+    pub(crate) fn new(has_peer: bool) -> Lanes {
+        Lanes {
+            has_peer,
+            first: Stations::new(),
+            peer: Stations::new(),
+        }
+    }
+
+    /// A station has a lane from here on; anybody else has one anyway.
+    pub(crate) fn add(&mut self, post: Post) {
+        match post {
+            Post::Station(Mark::Alone | Mark::First, cell) => self.first.add(cell),
+            Post::Station(Mark::Peer, cell) => self.peer.add(cell),
+            Post::Controller(_) | Post::Centre => {}
+        }
+    }
+
+    /// The place of somebody's lane, counted from 0.
+    pub(crate) fn place(&self, post: Post) -> u32 {
+        let first = self.first.len();
+        match post {
+            Post::Station(Mark::Alone | Mark::First, cell) => self.first.below(cell),
+            Post::Controller(Mark::Alone | Mark::First) => first,
+            Post::Centre => first.saturating_add(1),
+            Post::Controller(Mark::Peer) => first.saturating_add(2),
+            Post::Station(Mark::Peer, cell) => {
+                first
+                    .saturating_add(3)
+                    .saturating_add(self.peer.below(cell))
+            }
+        }
+    }
+
+    /// The names of the lanes, from the left.
+    pub(crate) fn names<A: Allocator + Copy>(
+        &self,
+        alloc: A,
+    ) -> Result<Vec<String<A>, A>, AllocError> {
+        let mut names = Vec::new(alloc);
+        if self.has_peer {
+            push_stations(alloc, &self.first, " of 1", &mut names)?;
+            names.push(String::from_str(alloc, "controller 1")?)?;
+            names.push(String::from_str(alloc, "switching centre")?)?;
+            names.push(String::from_str(alloc, "controller 2")?)?;
+            push_stations(alloc, &self.peer, " of 2", &mut names)?;
+        } else {
+            push_stations(alloc, &self.first, "", &mut names)?;
+            names.push(String::from_str(alloc, "controller")?)?;
+            names.push(String::from_str(alloc, "switching centre")?)?;
+        }
+        Ok(names)
+    }
+}
 
 /// What the bars of a side are: those at the left the first controller's, those at the right the second's.
 pub(crate) fn bars_are(has_peer: bool, side: Side) -> &'static str {

@@ -1,4 +1,4 @@
-//! Views of a run: its trace with words and with what the books hold, as a capture file, and as a sequence chart.
+//! Views of a run: its trace with words and with what the books hold, as a capture file, as a sequence chart, and counted.
 //!
 //! A [`Viewer`] listens to a run, prints its trace, turn by turn, and gathers what else is asked for. A [`LiveViewer`] listens
 //! to lines as they come, and writes what it gathers at once.
@@ -16,10 +16,11 @@ mod ignored;
 mod lanes;
 mod live_viewer;
 mod options;
+mod origins;
 mod sheets;
 mod viewer;
 
 pub use live_viewer::LiveViewer;
-pub use options::Views;
+pub use options::{SummaryForm, Views};
 pub use sheets::{Sheets, open_sheets};
 pub use viewer::Viewer;

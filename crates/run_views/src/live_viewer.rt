@@ -17,7 +17,7 @@ use std::io::{self, Write};
 use trace_text::trace::Mark;
 
 /// Prints the trace of lines as they come, as [`Viewer`] does that of a run, and writes the capture to its file as it grows. A
-/// capture that can't be written any more ends alone.
+/// capture that can't be written any more ends alone. What the lines tell is counted, and shown where a line asks for it.
 #[derive(Drop)]
 pub struct LiveViewer<'a, 'p, W: Write, F: Write + Drop, A: Allocator + Copy = Global> {
     viewer: Viewer<'a, W, A>,
@@ -65,7 +65,8 @@ impl<'a, 'p, W: Write, F: Write + OpenFile + Drop, A: Allocator + Copy> LiveView
         errors: &mut E,
     ) -> Result<LiveViewer<'a, 'p, W, F, A>, LabFault> {
         let pcap = sheets.into_pcap(errors)?;
-        let viewer = Viewer::new(alloc, views, false, out)?;
+        let mut viewer = Viewer::new(alloc, views, false, out)?;
+        viewer.begin_summary();
         Ok(LiveViewer {
             viewer,
             pcap,
@@ -153,5 +154,9 @@ impl<W: Write, F: Write + Drop, A: Allocator + Copy> LiveListener<A>
     fn hear_line_end<E: Write>(&mut self, errors: &mut E) -> Result<(), LabFault> {
         self.viewer.flush()?;
         self.write_capture(errors)
+    }
+
+    fn hear_summary(&mut self) -> Result<bool, LabFault> {
+        self.viewer.print_summary_words()
     }
 }

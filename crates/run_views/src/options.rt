@@ -1,5 +1,14 @@
 //! Which views are asked for.
 
+/// How counts are shown.
+#[derive(Clone, Copy, Debug, PartialEq, Eq)]
+pub enum SummaryForm {
+    /// In words, a line for each figure.
+    Words,
+    /// As one JSON object.
+    Json,
+}
+
 /// The views that are asked for.
 #[derive(Clone, Copy, Debug, PartialEq, Eq)]
 pub struct Views<'a> {
@@ -11,6 +20,12 @@ pub struct Views<'a> {
     pub pcap: Option<&'a str>,
     /// The path of the sequence chart.
     pub chart: Option<&'a str>,
+    /// What the run came to, counted.
+    pub summary: Option<SummaryForm>,
+    /// Behind each input the line of the script that gave it.
+    pub lines: bool,
+    /// The call whose lines alone are shown.
+    pub call: Option<u16>,
 }
 
 impl<'a> Views<'a> {
@@ -21,11 +36,20 @@ impl<'a> Views<'a> {
             state: false,
             pcap: None,
             chart: None,
+            summary: None,
+            lines: false,
+            call: None,
         }
     }
 
     /// Whether none is asked for.
     pub fn is_plain(&self) -> bool {
-        !self.words && !self.state && self.pcap.is_none() && self.chart.is_none()
+        !self.words
+            && !self.state
+            && self.pcap.is_none()
+            && self.chart.is_none()
+            && self.summary.is_none()
+            && !self.lines
+            && self.call.is_none()
     }
 }

@@ -1,23 +1,25 @@
 //! A listener that views a run.
 use crate::chart_rows::RunChart;
 use crate::ignored::{is_ignored, is_out_of_stage};
-use crate::options::Views;
+use crate::options::{SummaryForm, Views};
+use crate::origins::{Origin, Origins};
 use capture::RunCapture;
 use cell_table::SiteFault;
 use ho_procedure::exchange::Outbound;
 use lab_runs::listener::{Listener, print_no_site, print_unreadable};
 use lab_runs::run::LabFault;
-use lab_runs::turn::{Answer, Turn};
+use lab_runs::turn::{Answer, Source, Turn};
 use line_words::{
     Calls, Content, StateLines, content_of, print_ignored, print_out_of_stage, print_words,
 };
 use radio_book::book::Book;
+use run_summaries::{RunSummary, SummaryWords, json_text};
 use std::alloc::{AllocError, Allocator, Global};
 use std::io::{self, Write};
 use trace_text::trace::{Mark, TraceLine, print_sent};
 
 /// Prints the trace of a run, with words and with what the books hold where that is asked for, and gathers its capture and its
-/// chart.
+/// chart, and counts what it tells.
 #[derive(Drop)]
 pub struct Viewer<'a, W: Write, A: Allocator + Copy = Global> {
     out: &'a mut W,
@@ -27,6 +29,16 @@ pub struct Viewer<'a, W: Write, A: Allocator + Copy = Global> {
     state: Option<StateLines<A>>,
     capture: Option<RunCapture<A>>,
     chart: Option<RunChart<A>>,
+    /// What the lines came to, where it is to be shown or may be asked for.
+    summary: Option<RunSummary<A>>,
+    /// How it is shown.
+    form: Option<SummaryForm>,
+    /// Whether the lines of the script are shown behind the inputs.
+    lines: bool,
+    /// These, once the script was noted.
+    origins: Option<Origins<A>>,
+    /// The call whose lines alone are shown.
+    only: Option<u16>,
     /// Whether something was run.
     has_begun: bool,
     /// How many messages of the answer that is told now, or was told last, were shown.
@@ -57,6 +69,11 @@ impl<'a, W: Write, A: Allocator + Copy> Viewer<'a, W, A> {
             },
             capture,
             chart: views.chart.map(|_| RunChart::new(alloc, has_peer)),
+            summary: views.summary.map(|_| RunSummary::new(alloc, has_peer)),
+            form: views.summary,
+            lines: views.lines,
+            origins: None,
+            only: views.call,
             has_begun: false,
             shown: 0,
             alloc,
@@ -78,7 +95,38 @@ impl<'a, W: Write, A: Allocator + Copy> Viewer<'a, W, A> {
         self.has_begun
     }
 
-    /// Feeds a line to the capture and to the chart.
+    /// The run is to be one of this script: which of its lines give inputs is noted, where that is to be shown.
+    pub fn note_script(&mut self, script: &str) -> Result<(), AllocError> {
+        if self.lines {
+            self.origins = Some(Origins::new(self.alloc, script)?);
+        }
+        Ok(())
+    }
+
+    /// Where the next input comes from, where that is shown.
+    fn next_origin(&mut self, source: Source) -> Origin {
+        match &mut self.origins {
+            Some(origins) => origins.next(source),
+            None => Origin::Untold,
+        }
+    }
+
+    /// Whether a line about this call is shown. The end of a trace and what was dropped always are.
+    fn shows(&self, line: &TraceLine<'_, A>, call: Option<u16>) -> bool {
+        match line {
+            TraceLine::Limit | TraceLine::End(_) => true,
+            TraceLine::Input(_) | TraceLine::Sent(_) | TraceLine::Step(_) | TraceLine::Fault(_) => {
+                self.only.is_none() || self.only == call
+            }
+        }
+    }
+
+    /// From here on what the lines of one controller come to is counted.
+    pub(crate) fn begin_summary(&mut self) {
+        self.summary = Some(RunSummary::new(self.alloc, false));
+    }
+
+    /// Feeds a line to the capture and to the counts, and to the chart where it is shown.
     fn gather(
         &mut self,
         mark: Mark,
@@ -86,33 +134,51 @@ impl<'a, W: Write, A: Allocator + Copy> Viewer<'a, W, A> {
         content: &Content<A>,
         call: Option<u16>,
     ) -> Result<(), AllocError> {
+        let is_shown = self.shows(line, call);
         if let Some(capture) = &mut self.capture {
             capture.add_line(mark, line)?;
         }
         if let Some(chart) = &mut self.chart {
-            chart.add_line(mark, line, content, call)?;
+            if is_shown {
+                chart.add_line(mark, line, content, call)?;
+            } else {
+                chart.pass_line(line);
+            }
+        }
+        if let Some(summary) = &mut self.summary {
+            summary.add_line(mark, line, content)?;
         }
         Ok(())
     }
 
-    /// Shows a line, without its end.
-    fn begin_line(&mut self, mark: Mark, line: &TraceLine<'_, A>) -> Result<(), LabFault> {
+    /// Shows a line, with where its input comes from, without its end. The answer is whether it is shown.
+    fn begin_line(
+        &mut self,
+        mark: Mark,
+        line: &TraceLine<'_, A>,
+        origin: Origin,
+    ) -> Result<bool, LabFault> {
         self.has_begun = true;
         let content = content_of(self.alloc, line)?;
         let call = self.calls.call_of(mark, line, &content)?;
         self.gather(mark, line, &content, call)?;
-        write!(self.out, "{mark}{line}")?;
+        if !self.shows(line, call) {
+            return Ok(false);
+        }
+        write!(self.out, "{mark}{line}{origin}")?;
         if self.words {
             write!(self.out, " # ")?;
             print_words(self.out, line, &content, call)?;
         }
-        Ok(())
+        Ok(true)
     }
 
     /// Shows a line.
     fn show(&mut self, mark: Mark, line: &TraceLine<'_, A>) -> Result<(), LabFault> {
-        self.begin_line(mark, line)?;
-        Ok(writeln!(self.out)?)
+        if self.begin_line(mark, line, Origin::Untold)? {
+            writeln!(self.out)?;
+        }
+        Ok(())
     }
 
     /// Says whether nothing comes of an input.
@@ -129,7 +195,10 @@ impl<'a, W: Write, A: Allocator + Copy> Viewer<'a, W, A> {
 
     /// Shows the line of an input, with words also whether nothing comes of it.
     fn show_input(&mut self, mark: Mark, turn: &Turn<A>) -> Result<(), LabFault> {
-        self.begin_line(mark, &TraceLine::Input(&turn.input))?;
+        let origin = self.next_origin(turn.source);
+        if !self.begin_line(mark, &TraceLine::Input(&turn.input), origin)? {
+            return Ok(());
+        }
         if self.words {
             self.show_ignored(turn)?;
         }
@@ -175,6 +244,41 @@ impl<'a, W: Write, A: Allocator + Copy> Viewer<'a, W, A> {
         match answer {
             Answer::Sent(sent) => self.print_plain(mark, sent.get(self.shown..).unwrap_or(&[])),
             Answer::Undecoded(_) => Ok(()),
+        }
+    }
+
+    /// Prints in words what was counted so far. The answer is whether it was counted.
+    pub(crate) fn print_summary_words(&mut self) -> Result<bool, LabFault> {
+        match &self.summary {
+            Some(summary) => {
+                write!(self.out, "{}", SummaryWords(summary))?;
+                Ok(true)
+            }
+            None => Ok(false),
+        }
+    }
+
+    /// Prints as one JSON object what was counted so far.
+    fn print_summary_json(&mut self, alloc: Global) -> Result<(), LabFault> {
+        match &self.summary {
+            Some(summary) => {
+                let text = json_text(alloc, summary)?;
+                Ok(writeln!(self.out, "{text}")?)
+            }
+            None => Ok(()),
+        }
+    }
+
+    /// Prints what a run came to that has ended, in the form that was asked for. Nothing where nothing was asked for, or nothing
+    /// was run.
+    pub fn print_summary(&mut self, alloc: Global) -> Result<(), LabFault> {
+        match self.form {
+            Some(SummaryForm::Words) if self.has_begun => {
+                let _ = self.print_summary_words()?;
+                Ok(())
+            }
+            Some(SummaryForm::Json) if self.has_begun => self.print_summary_json(alloc),
+            Some(_) | None => Ok(()),
         }
     }
 

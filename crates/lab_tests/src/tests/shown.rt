@@ -15,6 +15,9 @@ const WORDS: Views<'_> = Views {
     state: false,
     pcap: None,
     chart: None,
+    summary: None,
+    lines: false,
+    call: None,
 };
 
 /// Runs a script over one site, with words.

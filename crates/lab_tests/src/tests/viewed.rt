@@ -26,6 +26,9 @@ const ALL: Views<'_> = Views {
     state: true,
     pcap: Some(PCAP_FILE),
     chart: Some(CHART_FILE),
+    summary: None,
+    lines: false,
+    call: None,
 };
 
 /// The site alone.

@@ -1,0 +1,33 @@
+//! The lines of one controller in the trace of two.
+use std::alloc::{AllocError, Allocator};
+use trace_text::trace::Mark;
+
+/// Whether a trace is of two controllers.
+pub fn is_of_two(trace: &str) -> bool {
+    trace
+        .split('\n')
+        .any(|line| line.starts_with("1: ") || line.starts_with("2: "))
+}
+
+/// A controller's line without its mark; nothing of another's.
+fn line_of(mark: Mark, line: &str) -> &str {
+    match mark {
+        Mark::Alone => line,
+        Mark::First => line.strip_prefix("1: ").unwrap_or(""),
+        Mark::Peer => line.strip_prefix("2: ").unwrap_or(""),
+    }
+}
+
+/// The trace of the controller with this mark alone: each line where it was, and nothing in those of the other.
+pub fn side_text<A: Allocator + Copy>(
+    alloc: A,
+    mark: Mark,
+    trace: &str,
+) -> Result<String<A>, AllocError> {
+    let mut side = String::new(alloc);
+    for line in trace.split('\n') {
+        side.push_str(line_of(mark, line))?;
+        side.push_str("\n")?;
+    }
+    Ok(side)
+}

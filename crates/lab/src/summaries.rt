@@ -1,0 +1,74 @@
+//! What a trace tells, counted.
+use crate::files::text_of;
+use lab_runs::run::{LabFault, Status};
+use run_summaries::{RunSummary, SummaryWords, TraceFault, json_text, summary_of_trace};
+use run_views::SummaryForm;
+use screen_text::Escaped;
+use std::alloc::Global;
+use std::io::Write;
+use std::rt::Files;
+
+/// Prints counts.
+fn print_summary<W: Write>(
+    alloc: Global,
+    summary: &RunSummary,
+    form: SummaryForm,
+    out: &mut W,
+) -> Result<(), LabFault> {
+    match form {
+        SummaryForm::Words => write!(out, "{}", SummaryWords(summary))?,
+        SummaryForm::Json => {
+            let text = json_text(alloc, summary)?;
+            writeln!(out, "{text}")?;
+        }
+    }
+    Ok(())
+}
+
+/// Refuses the first line of a trace that can't be read: its number is printed, and `errors` says what it isn't.
+fn refuse_line<W: Write, E: Write>(
+    path: &str,
+    number: usize,
+    out: &mut W,
+    errors: &mut E,
+) -> Result<Status, LabFault> {
+    writeln!(
+        errors,
+        "{}:{number}: no line of a trace, as run prints it",
+        Escaped(path)
+    )?;
+    writeln!(out, "line {number}")?;
+    Ok(Status::Refused)
+}
+
+/// Prints what the trace of a file tells, counted for each cell and in all ([`summary_of_trace`]), in words or as one JSON
+/// object. The file is refused as by [`run_files`](crate::files::run_files). A line that begins as one that is counted, and
+/// isn't one, is refused: `line` and its number are printed, and one line on `errors` says so. One says where a text has
+/// nothing that is counted.
+pub fn summary_file<R: Files + AllocGlobal, W: Write, E: Write>(
+    rt: &R,
+    path: &str,
+    form: SummaryForm,
+    out: &mut W,
+    errors: &mut E,
+) -> Result<Status, LabFault> {
+    let alloc = rt.alloc();
+    let Some(trace) = text_of(rt, path, out, errors)? else {
+        return Ok(Status::Refused);
+    };
+    match summary_of_trace(alloc, &trace) {
+        Ok(summary) => {
+            print_summary(alloc, &summary, form, out)?;
+            if summary.is_empty() {
+                writeln!(
+                    errors,
+                    "{}: nothing is counted: is this a trace?",
+                    Escaped(path)
+                )?;
+            }
+            Ok(Status::Done)
+        }
+        Err(TraceFault::Line(number)) => refuse_line(path, number, out, errors),
+        Err(TraceFault::NoMemory) => Err(LabFault::NoMemory),
+    }
+}

@@ -1,0 +1,5 @@
+pub mod Counting
+pub mod Lines
+pub mod Places
+pub mod SameReports
+pub mod Summed

@@ -1,0 +1,79 @@
+//! Why an attempt at handover is taken back, by the input that undoes it.
+ghost use Rattle.std.specs.Prelude.{◌≡◌};
+ghost use Rattle.run_summaries.specs.Causes as said;
+
+use bssmap_messages::Bssmap;
+use ho_procedure::exchange::{Inbound, Line};
+use line_words::Content;
+use rsl_messages::Rsl;
+use run_counts::Cause;
+use std::alloc::Allocator;
+
+/// Why an attempt is taken back that a message on Abis undoes. A DATA INDICATION that does so carries HANDOVER FAILURE.
+fn cause_of_abis<A: Allocator>(message: &Rsl<A>) -> Cause
+    ensures { result ≡ said.cause_of_abis message.now }
+{
+    match message {
+        Rsl::ChannelActivationNack { .. } => Cause::ActivationRefused,
+        Rsl::DataIndication { .. } => Cause::MobileReturned,
+        Rsl::DataRequest { .. }
+        | Rsl::ChannelActivation { .. }
+        | Rsl::ChannelActivationAck { .. }
+        | Rsl::ConnectionFailureIndication { .. }
+        | Rsl::HandoverDetection { .. }
+        | Rsl::MeasurementResult { .. }
+        | Rsl::RfChannelRelease { .. }
+        | Rsl::RfChannelReleaseAck { .. } => Cause::Untold,
+    }
+}
+
+/// Why an attempt is taken back that a message on A undoes.
+fn cause_of_a<A: Allocator>(message: &Bssmap<A>) -> Cause
+    ensures { result ≡ said.cause_of_a message.now }
+{
+    match message {
+        Bssmap::HandoverRequiredReject { .. } => Cause::CentreRejected,
+        Bssmap::ClearCommand { .. } => Cause::CallCleared,
+        Bssmap::HandoverRequest { .. }
+        | Bssmap::HandoverRequired { .. }
+        | Bssmap::HandoverRequestAck { .. }
+        | Bssmap::HandoverCommand { .. }
+        | Bssmap::HandoverComplete { .. }
+        | Bssmap::HandoverFailure { .. }
+        | Bssmap::HandoverPerformed { .. }
+        | Bssmap::HandoverDetect
+        | Bssmap::ClearComplete
+        | Bssmap::ClearRequest { .. } => Cause::Untold,
+    }
+}
+
+/// Why an attempt is taken back that what octets are undoes.
+fn cause_of_content<A: Allocator>(content: &Content<A>) -> Cause {
+    match content {
+        Content::Abis(_, Some(message)) => cause_of_abis(message),
+        Content::A(_, Some(message)) => cause_of_a(message),
+        Content::Abis(_, None) | Content::A(_, None) | Content::Rowless(..) | Content::Nothing => {
+            Cause::Untold
+        }
+    }
+}
+
+/// Why an attempt is taken back that an operator's line undoes.
+fn cause_of_line(line: Line) -> Cause
+    ensures { result ≡ said.cause_of_line line }
+{
+    match line {
+        Line::Undo { .. } => Cause::Operator,
+        Line::Clear { .. } => Cause::CallCleared,
+        Line::Open { .. } | Line::Seize { .. } | Line::Handover { .. } => Cause::Untold,
+    }
+}
+
+/// Why an attempt is taken back that an input undoes, which carries this.
+pub(crate) fn cause_of<A: Allocator>(input: &Inbound<A>, content: &Content<A>) -> Cause {
+    match input {
+        Inbound::Abis { .. } | Inbound::A { .. } => cause_of_content(content),
+        Inbound::Expiry { .. } => Cause::Timer,
+        Inbound::Operator(line) => cause_of_line(*line),
+    }
+}

@@ -1,0 +1,267 @@
+What a run or a trace came to, counted in all and for each cell: each number is counted by hand in the script or the trace.
+
+A handover fails: the mobile comes back. What is 0 in all is printed, but of no cell, and of no message.
+
+  $ ./lab run examples/two_cells.toml examples/handover_returns.txt --summary >printed
+  $ head -n 25 printed | cmp - examples/handover_returns.trace
+  $ tail -n +26 printed
+  summary all            1 calls opened
+  summary all            0 calls cleared
+  summary all            1 internal attempts
+  summary all            0 incoming attempts
+  summary all            0 outgoing attempts
+  summary all            0 completed
+  summary all            0 undone: activation refused
+  summary all            1 undone: mobile returned
+  summary all            0 undone: timer
+  summary all            0 undone: rejected by the centre
+  summary all            0 undone: operator
+  summary all            0 undone: call cleared
+  summary all            0 undone: cause not told
+  summary all            0 turned away (none free)
+  summary all            0 faults
+  summary all            2 out CHANNEL ACTIVATION
+  summary all            2 in CHANNEL ACTIVATION ACK
+  summary all            1 out DATA REQUEST: HANDOVER COMMAND
+  summary all            1 in DATA INDICATION: HANDOVER FAILURE
+  summary all            1 out RF CHANNEL RELEASE
+  summary all            1 in RF CHANNEL RELEASE ACK
+  summary cell 0         1 calls opened
+  summary cell 0         1 internal attempts
+  summary cell 0         1 undone: mobile returned
+  summary cell 0         1 out CHANNEL ACTIVATION
+  summary cell 0         1 in CHANNEL ACTIVATION ACK
+  summary cell 0         1 out DATA REQUEST: HANDOVER COMMAND
+  summary cell 0         1 in DATA INDICATION: HANDOVER FAILURE
+  summary cell 1         1 out CHANNEL ACTIVATION
+  summary cell 1         1 in CHANNEL ACTIVATION ACK
+  summary cell 1         1 out RF CHANNEL RELEASE
+  summary cell 1         1 in RF CHANNEL RELEASE ACK
+
+The trace of a run tells the same, with words, states and audits in it too.
+
+  $ grep '^summary' printed >counted
+  $ ./lab summary examples/handover_returns.trace | cmp - counted
+  $ ./lab run examples/two_cells.toml examples/handover_returns.txt --words --state --audit --summary >printed
+  $ grep '^summary' printed | cmp - counted
+  $ tail -n 3 printed
+  attempts 1
+  held -
+  same
+  $ ./lab summary printed | cmp - counted
+
+Each way in which an attempt ends, once, and each other figure that is told of a cell: a call in cell 0 tries cell 1 four times,
+and another controller, which the centre rejects, since there is none; its mobile is lost, so the centre clears it. Call 2 is
+cleared as it moves, call 3 arrives, call 4 finds no channel. Octets from cell 0 are cut, others on A are none.
+
+  $ cat >each.txt <<'END'
+  > sim
+  > open 1 0 0 3
+  > refuse 1 1 3
+  > handover 1 1
+  > mobile 0 0 3 return
+  > handover 1 1
+  > hold 1 1 3
+  > handover 1 1
+  > undo 1
+  > handover 1 64
+  > mobile 0 0 3 vanish
+  > handover 1 1
+  > expire 1 T3103
+  > open 2 0 0 2
+  > hold 1 1 3
+  > handover 2 1
+  > clear 2
+  > open 3 0 0 2
+  > handover 3 1
+  > seize 4 1 full
+  > abis 0 0 0822
+  > a 9 00
+  > END
+  $ ./lab run examples/two_cells.toml each.txt --summary >printed
+  $ grep '^summary' printed | grep -v ' in \| out '
+  summary all            3 calls opened
+  summary all            2 calls cleared
+  summary all            6 internal attempts
+  summary all            0 incoming attempts
+  summary all            1 outgoing attempts
+  summary all            1 completed
+  summary all            1 undone: activation refused
+  summary all            1 undone: mobile returned
+  summary all            1 undone: timer
+  summary all            1 undone: rejected by the centre
+  summary all            1 undone: operator
+  summary all            1 undone: call cleared
+  summary all            0 undone: cause not told
+  summary all            1 turned away (none free)
+  summary all            2 faults
+  summary cell 0         3 calls opened
+  summary cell 0         2 calls cleared
+  summary cell 0         6 internal attempts
+  summary cell 0         1 outgoing attempts
+  summary cell 0         1 completed
+  summary cell 0         1 undone: activation refused
+  summary cell 0         1 undone: mobile returned
+  summary cell 0         1 undone: timer
+  summary cell 0         1 undone: rejected by the centre
+  summary cell 0         1 undone: operator
+  summary cell 0         1 undone: call cleared
+  summary cell 0         1 faults
+  summary cell 1         1 turned away (none free)
+  $ grep '^summary.*\( CLEAR\|REQUIRED\|no message\|NACK\)' printed
+  summary all            1 in CHANNEL ACTIVATION NACK
+  summary all            1 out HANDOVER REQUIRED
+  summary all            1 in HANDOVER REQUIRED REJECT
+  summary all            1 out CLEAR REQUEST
+  summary all            1 in CLEAR COMMAND
+  summary all            1 out CLEAR COMPLETE
+  summary all            2 in no message
+  summary cell 0         1 in no message
+  summary cell 1         1 in CHANNEL ACTIVATION NACK
+
+What was refused isn't counted: a channel that isn't free, a call that isn't there, an undo where no attempt is open.
+
+  $ printf 'open 1 0 0 3\nopen 2 0 0 3\nclear 5\nundo 1\n' >refused.txt
+  $ ./lab run examples/two_cells.toml refused.txt --summary | grep '^summary' | grep -v ' 0 [a-z]'
+  summary all            1 calls opened
+  summary all            1 out CHANNEL ACTIVATION
+  summary cell 0         1 calls opened
+  summary cell 0         1 out CHANNEL ACTIVATION
+
+T7 and T8 are timers, too, and what another timer ends isn't counted.
+
+  $ printf 'open 1 0 0 3\nabis 0 0 0822010b081234\nhandover 1 64\nexpire 1 T8\nexpire 1 T7\n' >timers.txt
+  $ ./lab run examples/two_cells.toml timers.txt --summary | grep '^summary all.*\(attempts\|undone\)' | grep -v ' 0 '
+  summary all            1 outgoing attempts
+  summary all            1 undone: timer
+
+An attempt counts where its call is served; one that comes, where it goes to. Of two controllers each is counted by itself.
+
+  $ ./lab run examples/two_cells.toml examples/handover_between.txt --peer examples/one_cell.toml --summary >printed
+  $ grep 'summary' printed | grep -v ' in \| out \| 0 '
+  1: summary all            1 calls opened
+  1: summary all            1 outgoing attempts
+  1: summary all            1 completed
+  2: summary all            1 incoming attempts
+  2: summary all            1 completed
+  $ grep 'summary cell' printed
+  1: summary cell 0         1 calls opened
+  1: summary cell 0         1 outgoing attempts
+  1: summary cell 0         1 completed
+  1: summary cell 0         1 out CHANNEL ACTIVATION
+  1: summary cell 0         1 in CHANNEL ACTIVATION ACK
+  1: summary cell 0         1 out DATA REQUEST: HANDOVER COMMAND
+  1: summary cell 0         1 out RF CHANNEL RELEASE
+  1: summary cell 0         1 in RF CHANNEL RELEASE ACK
+  2: summary cell 0         1 incoming attempts
+  2: summary cell 0         1 completed
+  2: summary cell 0         1 out CHANNEL ACTIVATION
+  2: summary cell 0         1 in CHANNEL ACTIVATION ACK
+  2: summary cell 0         1 in HANDOVER DETECTION
+  2: summary cell 0         1 in DATA INDICATION: HANDOVER COMPLETE
+  $ grep summary printed >counted
+  $ ./lab summary examples/handover_between.trace | cmp - counted
+
+As JSON it is one object in one line, the same by keys.
+
+  $ ./lab run examples/two_cells.toml examples/one_call.txt --summary --json | tail -n 1 >counted.json
+  $ cat counted.json
+  {"controllers":[{"all":{"calls":{"opened":1,"cleared":1},"attempts":{"internal":0,"incoming":0,"outgoing":0},"completed":0,"undone":{"activation_refused":0,"mobile_returned":0,"timer":0,"rejected_by_centre":0,"operator":0,"call_cleared":0,"not_told":0},"turned_away":0,"faults":0,"received":{"CHANNEL ACTIVATION ACK":1,"RF CHANNEL RELEASE ACK":1},"sent":{"CHANNEL ACTIVATION":1,"RF CHANNEL RELEASE":1}},"cells":[{"cell":0,"calls":{"opened":1,"cleared":1},"attempts":{"internal":0,"incoming":0,"outgoing":0},"completed":0,"undone":{"activation_refused":0,"mobile_returned":0,"timer":0,"rejected_by_centre":0,"operator":0,"call_cleared":0,"not_told":0},"turned_away":0,"faults":0,"received":{"CHANNEL ACTIVATION ACK":1,"RF CHANNEL RELEASE ACK":1},"sent":{"CHANNEL ACTIVATION":1,"RF CHANNEL RELEASE":1}}]}]}
+  $ ./lab run examples/two_cells.toml examples/one_call.txt >printed
+  $ ./lab summary printed --json | cmp - counted.json
+  $ ./lab run examples/two_cells.toml each.txt >printed
+  $ ./lab summary printed --json >counted.json
+  $ python3 - <<'END'
+  > import json
+  > controller, = json.load(open("counted.json"))["controllers"]
+  > print(controller["all"]["attempts"], controller["all"]["undone"], controller["all"]["faults"])
+  > print([(it["cell"], it["faults"], it["turned_away"]) for it in controller["cells"]])
+  > END
+  {'internal': 6, 'incoming': 0, 'outgoing': 1} {'activation_refused': 1, 'mobile_returned': 1, 'timer': 1, 'rejected_by_centre': 1, 'operator': 1, 'call_cleared': 1, 'not_told': 0} 2
+  [(0, 1, 0), (1, 0, 1)]
+  $ ./lab run examples/two_cells.toml examples/one_call.txt --json 2>&1
+  *--summary* (glob)
+  [2]
+
+A controller that is given its lines as they come answers summary by what came so far. The line counts as one, and changes nothing.
+
+  $ printf 'open 1 0 0 3\nsummary\r\nclear 9 9\nclear 1\nsummary' | ./lab live examples/two_cells.toml 2>errors >printed
+  $ grep -n 'calls\|^in\|^line\|^end' printed
+  1:in open 1 0 0 3
+  4:summary all            1 calls opened
+  5:summary all            0 calls cleared
+  20:summary cell 0         1 calls opened
+  22:line 3
+  23:in clear 1
+  27:summary all            1 calls opened
+  28:summary all            1 calls cleared
+  44:summary cell 0         1 calls opened
+  45:summary cell 0         1 calls cleared
+  48:end channels=1 calls=0 references=0 timers=0
+  $ cat errors
+  standard input:3: nothing stands behind clear CALL, found 9
+  $ printf 'summary all\nSummary\n summary\n' | ./lab live examples/two_cells.toml 2>/dev/null
+  line 1
+  line 2
+  line 3
+  end channels=0 calls=0 references=0 timers=0
+  $ printf 'summary\n' >asked.txt
+  $ ./lab run examples/two_cells.toml asked.txt 2>/dev/null
+  line 1
+  [2]
+
+Events without their input tell no cause, and none without a record its cell. Lines that aren't counted are passed over.
+
+  $ cat >events.trace <<'END'
+  > # a comment
+  > event take 1 internal 1/1/3 -> done
+  > event undo 1 asked -> record 0/0/3 on internal taken 1/1/3 -
+  > event clear 1 -> done
+  > none free 7
+  > end channels=0 calls=0 references=0 timers=0
+  > END
+  $ ./lab summary events.trace | grep -v ' 0 [a-z]'
+  summary all            1 calls cleared
+  summary all            1 internal attempts
+  summary all            1 undone: cause not told
+  summary all            1 turned away (none free)
+  summary cell 0         1 calls cleared
+  summary cell 0         1 undone: cause not told
+  summary cell 7         1 turned away (none free)
+
+A line that begins as one that is counted has to be one.
+
+  $ for line in 'in open 1 0 0' 'in sim' 'event look 1' 'event look 1 -> perhaps' 'event leave 1 -> done' \
+  >   'none free 256' 'out clear 1' 'out abis 0 0 0' 'fault x 1' '2: in look 1'; do
+  >   printf 'in open 1 0 0 3\n%s\n' "$line" >bad.trace
+  >   ./lab summary bad.trace 2>errors; echo "$? $(cat errors)"
+  > done
+  line 2
+  2 bad.trace:2: no line of a trace, as run prints it
+  line 2
+  2 bad.trace:2: no line of a trace, as run prints it
+  line 2
+  2 bad.trace:2: no line of a trace, as run prints it
+  line 2
+  2 bad.trace:2: no line of a trace, as run prints it
+  line 2
+  2 bad.trace:2: no line of a trace, as run prints it
+  line 2
+  2 bad.trace:2: no line of a trace, as run prints it
+  line 2
+  2 bad.trace:2: no line of a trace, as run prints it
+  line 2
+  2 bad.trace:2: no line of a trace, as run prints it
+  line 2
+  2 bad.trace:2: no line of a trace, as run prints it
+  line 2
+  2 bad.trace:2: no line of a trace, as run prints it
+
+A file that can't be read; one that is no trace.
+
+  $ ./lab summary nothing.trace
+  nothing.trace: * (glob)
+  file nothing.trace
+  [2]
+  $ ./lab summary examples/two_cells.toml --json 2>&1 >/dev/null
+  examples/two_cells.toml: nothing is counted: is this a trace?
