@@ -93,8 +93,10 @@ fn beside_in<A: Allocator + Copy>(
     let (mut events, mut replies) = (Vec::new(alloc), Vec::new(alloc));
     for place in 0..desk.len() {
         if let Some((event, reply)) = desk.entry(place) {
-            events.push(*event)?;
-            replies.push(*reply)?;
+            events.reserve(1)?;
+            events.push_reserved(*event);
+            replies.reserve(1)?;
+            replies.push_reserved(*reply);
         }
     }
     let lines = lines.asked(side);

@@ -47,11 +47,11 @@ fn audit_told<W: Write>(
 }
 
 /// What a run came to, once it was printed what was counted of it, where that was asked for.
-fn summed<W: Write>(
+fn summed<T: Drop, W: Write>(
     alloc: Global,
-    ended: Result<Option<Audits>, LabFault>,
+    ended: Result<Option<T>, LabFault>,
     viewer: &mut Viewer<'_, W>,
-) -> Result<Option<Audits>, LabFault> {
+) -> Result<Option<T>, LabFault> {
     let audits = ended?;
     viewer.print_summary(alloc)?;
     Ok(audits)

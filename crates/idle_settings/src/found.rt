@@ -88,7 +88,7 @@ fn lines_of<A: Allocator + Copy>(
 }
 
 /// Whether a site has a channel.
-fn has<A: Allocator>(site: &Site<A>, chan: ChanId) -> bool {
+fn has<A: Allocator + Copy>(site: &Site<A>, chan: ChanId) -> bool {
     site.is_traffic(chan)
 }
 

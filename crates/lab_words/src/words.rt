@@ -200,12 +200,12 @@ fn rewind_command<'a>(alloc: Global) -> Result<Command<'a>, AllocError> {
         .arg(argument(alloc, "SITE", "The site file"))?
         .arg(trace_argument(alloc))?
         .arg(line_argument(alloc)?)?
-        .arg(all_argument(alloc)?)?
+        .arg(each_argument(alloc)?)?
         .arg(peer_argument(alloc).requires_arg("all")?)
 }
 
-/// `--all`
-fn all_argument<'a>(alloc: Global) -> Result<Arg<'a>, AllocError> {
+/// `--all` of `rewind`.
+fn each_argument<'a>(alloc: Global) -> Result<Arg<'a>, AllocError> {
     Arg::new(alloc, "all")
         .long("all")
         .action(ArgAction::SetTrue)

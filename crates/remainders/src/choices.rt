@@ -19,7 +19,7 @@ pub struct Choice {
 
 /// Whether a book without attempts would give another channel than was chosen, or one where none was free, and the book
 /// with them wouldn't.
-fn gives_other<A: Allocator>(alone: &Book<A>, whole: &Book<A>, choice: &Choice) -> bool {
+fn gives_other<A: Allocator + Copy>(alone: &Book<A>, whole: &Book<A>, choice: &Choice) -> bool {
     let Choice {
         line: _,
         before: _,

@@ -68,7 +68,7 @@ fn held_by<A: Allocator + Copy>(
 fn subject_of(line: &str) -> &str {
     let kind = line.strip_prefix("state ").unwrap_or(line);
     let names = if kind.starts_with("reference ") { 2 } else { 1 };
-    let mut end = 0;
+    let mut end: usize = 0;
     for (place, word) in line.split(' ').enumerate() {
         if place < 2 + names {
             end = end.saturating_add(word.len()).saturating_add(1);

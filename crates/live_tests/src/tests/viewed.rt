@@ -22,6 +22,9 @@ const VIEWS: Views<'_> = Views {
     state: true,
     pcap: None,
     chart: None,
+    summary: None,
+    lines: false,
+    call: None,
 };
 
 /// Lines of a call that is cleared while it has an attempt: four messages are sent then.
