@@ -108,9 +108,9 @@ As in: bsc_lab run site.toml script.txt --words"
 pub(crate) const LIVE_HELP: &str = with_script_lines!(
     "\
 Each line of standard input is handled as it comes, what comes of it is printed, and standard output
-is flushed behind it. A line that can't be read prints line N, and on standard error why, and changes
-nothing. Lines with 2: can't be read, nor lines of over 65,536 octets. The line summary is answered
-by what came so far, as bsc_lab help summary explains.
+is flushed behind it. A line that can't be read prints line N, and on standard error why, and
+changes nothing. Lines with 2: can't be read, nor lines of over 65,536 octets. The line summary is
+answered by what came so far, as bsc_lab help summary explains.
 
 ",
     "
@@ -126,8 +126,8 @@ pub(crate) const TEST_HELP: &str = with_script_lines!(
     "\
 Comments behind a script line say what it gives. #> and a line of the trace: these are in order all
 lines, but that in .. may be left out; messages may stand in words, with some of their fields; #> ..
-stands for any lines, or none. #! and a text: no line begins so. #= and trx, channels, call, calls or
-references: what the books hold then. Behind the last line the trace's end may be expected, too.
+stands for any lines, or none. #! and a text: no line begins so. #= and trx, channels, call, calls
+or references: what the books hold then. Behind the last line the trace's end may be expected, too.
 #% site PATH names the site of a script.
 
 With --undo-everywhere these comments are passed over. Behind each input, answers of simulators too,
