@@ -20,9 +20,10 @@ All else stays as it is, and words stand behind that.
   in handover 1 1 @21 # call 1
   $ ./lab summary printed >counted
   $ ./lab summary examples/handover_returns.trace | cmp - counted
-  $ ./lab run examples/two_cells.toml examples/handover_returns.txt --lines --audit | tail -n 3
+  $ ./lab run examples/two_cells.toml examples/handover_returns.txt --lines --audit | tail -n 4
   attempts 1
   held -
+  choices -
   same
 
 Of two controllers each line of the script is one, of whichever it is; a carriage return may end it.

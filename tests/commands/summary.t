@@ -44,9 +44,10 @@ The trace of a run tells the same, with words, states and audits in it too.
   $ ./lab summary examples/handover_returns.trace | cmp - counted
   $ ./lab run examples/two_cells.toml examples/handover_returns.txt --words --state --audit --summary >printed
   $ grep '^summary' printed | cmp - counted
-  $ tail -n 3 printed
+  $ tail -n 4 printed
   attempts 1
   held -
+  choices -
   same
   $ ./lab summary printed | cmp - counted
 
