@@ -16,16 +16,17 @@ person counted. An attempt that isn't undone has no line.
   > event require 1 -> done
   > event open 2 1/1/3 -> done
   > event undo 1 t7 -> record 0/0/3 on outgoing required - -
-  > event take 1 internal 0/0/2 -> done
+  > event require 1 -> done
   > END
   $ ./lab rewind examples/two_cells.toml undone.trace --all
-  line 6 call 1 internal sent others 2-5,10,12-15 settled yes held - same
-  line 12 call 1 outgoing required others 2-11,13,15 settled yes held - same
+  line 6 call 1 internal sent others 2-5,10,12-15 settled yes held - choices - same
+  line 12 call 1 outgoing required others 2-11,13,15 settled yes held - choices - same
   $ ./lab rewind examples/two_cells.toml examples/handover_arrives.trace --all
   $ ./lab rewind examples/two_cells.toml examples/handover_returns.trace --all
-  line 9 call 1 internal commanded others 2-8 settled yes held - same
+  line 9 call 1 internal commanded others 2-8,19 settled yes held - choices - same
 
-One whose release is awaited differs, and so does one that another call was refused for.
+One whose release is awaited differs, and so does one that another call was refused for: the first reply that is another is
+told, or else the first that the books hold.
 
   $ cat >held.trace <<'END'
   > event open 1 0/0/3 -> done
@@ -39,12 +40,12 @@ One whose release is awaited differs, and so does one that another call was refu
   > event undo 1 asked -> record 0/0/3 on internal sent 1/1/3 0
   > END
   $ ./lab rewind examples/two_cells.toml held.trace --all
-  line 3 call 1 internal taken others 1-2,4,6-9 settled yes held 4 differs
-  line 6 call 1 internal sent others 1-5 settled no held - differs
+  line 3 call 1 internal taken others 1-2,4,6-9 settled yes held 4 choices - differs: line 4: refused 6 1/1/3; without: done
+  line 6 call 1 internal sent others 1-5 settled no held - choices - differs: state channel 1/1/3 off; without: no state channel 1/1/3
   [1]
   $ head -n 5 held.trace >first.trace
   $ ./lab rewind examples/two_cells.toml first.trace --all
-  line 3 call 1 internal taken others 1-2,4 settled yes held 4 differs
+  line 3 call 1 internal taken others 1-2,4 settled yes held 4 choices - differs: line 4: refused 6 1/1/3; without: done
   [1]
 
 Each says what rewind says of it alone.
@@ -53,16 +54,38 @@ Each says what rewind says of it alone.
   others 7
   settled yes
   held 4
-  differs
+  choices -
+  differs: line 4: refused 6 1/1/3; without: done
   [1]
+
+A channel that would have been chosen otherwise is told by its line: calls 2 and 3 found none free, since the attempt of call 1
+had the one channel of cell 1. Call 3 wouldn't have found one without it either, had call 2 got it: but that is no event.
+
+  $ printf 'open 1 0 0 3\nabis 0 0 0822010b081234\nhandover 1 1\nseize 2 1 full\nseize 3 1 full\nundo 1\n' >none.txt
+  $ printf 'abis 1 1 0833010b\nhandover 1 1\nundo 1\nabis 1 1 0833010b\n' >>none.txt
+  $ ./lab run examples/two_cells.toml none.txt >none.trace
+  $ grep -n 'none free\|event take\|event undo' none.trace
+  9:event take 1 internal 1/1/3 -> done
+  14:none free 1
+  16:none free 1
+  18:event undo 1 asked -> record 0/0/3 on internal sent 1/1/3 0
+  24:event take 1 internal 1/1/3 -> done
+  29:event undo 1 asked -> record 0/0/3 on internal sent 1/1/3 0
+  $ ./lab rewind examples/two_cells.toml none.trace --all
+  line 9 call 1 internal sent others 2-8,23-32 settled yes held - choices 14,16 same
+  line 24 call 1 internal sent others 2-23 settled yes held - choices - same
+  $ ./lab run examples/two_cells.toml none.txt --lines >none.trace
+  $ ./lab rewind examples/two_cells.toml none.trace --all | grep -o 'choices.*'
+  choices 14,16 same
+  choices - same
 
 Of two controllers each side is taken by itself, over its own site.
 
   $ printf 'sim\n2: hold 0 0 1\nopen 1 0 0 3\nhandover 1 64\n2: undo 40000\n' >two.txt
   $ ./lab run examples/two_cells.toml two.txt --peer examples/one_cell.toml >two.trace
   $ ./lab rewind examples/two_cells.toml two.trace --all --peer examples/one_cell.toml
-  1: line 9 call 1 outgoing required others 2-8 settled yes held - same
-  2: line 13 call 40000 incoming sent others 12 settled yes held - same
+  1: line 9 call 1 outgoing required others 2-8 settled yes held - choices - same
+  2: line 13 call 40000 incoming sent others 12 settled yes held - choices - same
   $ ./lab rewind examples/two_cells.toml two.trace --all 2>errors
   line 1
   [2]
@@ -94,5 +117,5 @@ wrong.
   *LINE* (glob)
   [2]
   $ ./lab rewind examples/two_cells.toml none.trace 1 --peer examples/one_cell.toml
-  *--all* (glob)
+  *'--peer <SITE>'* (glob)
   [2]

@@ -29,7 +29,7 @@ missing, and says what is allowed. Nothing stands on standard output.
   *'--peer <SITE>'*bsc_lab run * (glob)
   [2]
   $ ./lab rewind a b 1 --peer c.toml 2>&1 >>printed
-  *'--peer'*bsc_lab rewind <SITE> <TRACE> <LINE>* (glob)
+  *'--peer <SITE>'* (glob)
   [2]
   $ ./lab run a b --pcap 2>&1 >>printed
   *'--pcap <FILE>'* (glob)
@@ -137,16 +137,16 @@ A rewind, and words with ends of lines, blanks and control characters, none of w
   *'0'*1..18446744073709551615* (glob)
   [2]
   $ ./lab rewind a b -1 2>&1 >>printed
-  *'-1'*bsc_lab rewind <SITE> <TRACE> <LINE>* (glob)
+  *'-1'*bsc_lab rewind * <SITE> <TRACE> * (glob)
   [2]
   $ ./lab rewind a b two 2>&1 >>printed
-  *'two'*'<LINE>'* (glob)
+  *'two'*LINE* (glob)
   [2]
   $ ./lab rewind a b 1 2 2>&1 >>printed
-  *'2'*bsc_lab rewind <SITE> <TRACE> <LINE>* (glob)
+  *'2'*bsc_lab rewind * <SITE> <TRACE> * (glob)
   [2]
   $ ./lab rewind a b 18446744073709551616 2>&1 >>printed
-  *'18446744073709551616'*'<LINE>'* (glob)
+  *'18446744073709551616'*LINE* (glob)
   [2]
   $ ./lab "$(printf 'ru\n\nn')" 2>errors
   [2]

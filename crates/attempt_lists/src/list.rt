@@ -1,5 +1,5 @@
 //! A line for each undone attempt of a trace.
-use crate::ranges::Ranges;
+use crate::ranges::{Numbers, Ranges};
 use crate::sides::{is_of_two, side_text};
 use cell_table::Site;
 use lab_runs::listener::Printing;
@@ -7,9 +7,11 @@ use lab_runs::run::{LabFault, Sites, Status, read_sites, refuse_site};
 use radio_book::book::Book;
 use radio_book::event::{Event, Reply};
 use radio_book::rewind::{RewindFault, Rewound, rewind};
+use read_traces::choices::{Texts, choices_of_trace, event_lines};
 use read_traces::entries::{Entry, first_unreadable};
 use read_traces::reading::{Told, fresh_book, refuse_line, told_entries};
 use read_traces::rewound::is_same;
+use remainders::{Choice, other_choices, print_difference};
 use std::alloc::{Allocator, Global};
 use std::io::Write;
 use trace_text::trace::{Mark, ReplyText};
@@ -20,6 +22,15 @@ struct ToldSide<A: Allocator> {
     mark: Mark,
     book: Book<A>,
     told: Told<A>,
+    choices: Vec<Choice, A>,
+}
+
+/// Where an undone attempt opens: the line, the place among all events, and the call.
+#[derive(Clone, Copy)]
+struct Opening {
+    line: usize,
+    at: usize,
+    call: u16,
 }
 
 /// The call whose attempt an event opens.
@@ -68,28 +79,32 @@ fn kind_and_stage(record: &str) -> (&str, &str) {
     (words.next().unwrap_or("-"), words.next().unwrap_or("-"))
 }
 
-/// Prints what stays without an attempt of a call, and whether it left a trace; answers whether it left none.
-fn print_attempt<A: Allocator + Copy, W: Write>(
+/// Prints of which attempt a line is: where it opened, its call, its kind, and the stage in which it was taken back.
+fn print_opening<A: Allocator + Copy, W: Write>(
     alloc: A,
     side: &ToldSide<A>,
-    entry: &Entry,
-    call: u16,
-    at: usize,
+    opening: Opening,
     rewound: &Rewound<A>,
     out: &mut W,
-) -> Result<bool, LabFault> {
-    let Told { entries, events } = &side.told;
-    let record = match undo_reply(call, at, events, &rewound.whole_replies) {
+) -> Result<(), LabFault> {
+    let Opening { line, at, call } = opening;
+    let record = match undo_reply(call, at, &side.told.events, &rewound.whole_replies) {
         Some(reply) => ReplyText(reply).to_string(alloc)?,
         None => String::new(alloc),
     };
     let (kind, stage) = kind_and_stage(record.as_str());
     let mark = side.mark;
-    write!(
-        out,
-        "{mark}line {} call {call} {kind} {stage}",
-        entry.line()
-    )?;
+    Ok(write!(out, "{mark}line {line} call {call} {kind} {stage}")?)
+}
+
+/// Prints what stays without an attempt, and what was refused or would be chosen otherwise for its sake.
+fn print_remainder<A: Allocator + Copy, W: Write>(
+    alloc: A,
+    side: &ToldSide<A>,
+    rewound: &Rewound<A>,
+    out: &mut W,
+) -> Result<(), LabFault> {
+    let Told { entries, events } = &side.told;
     let others = Ranges {
         entries,
         places: &rewound.others,
@@ -100,10 +115,41 @@ fn print_attempt<A: Allocator + Copy, W: Write>(
         Some(held) => write!(out, " held {}", held.line())?,
         None => write!(out, " held -")?,
     }
-    let is_same = is_same(rewound);
-    let verdict = if is_same { "same" } else { "differs" };
-    writeln!(out, " {verdict}")?;
-    Ok(is_same)
+    let choices = other_choices(alloc, &side.book, events, &rewound.others, &side.choices)?;
+    Ok(write!(out, " choices {}", Numbers(&choices))?)
+}
+
+/// Prints whether an attempt left a trace, and what differs first where it did, and ends the line; answers whether it left
+/// none.
+fn print_verdict<A: Allocator + Copy, W: Write>(
+    alloc: A,
+    side: &ToldSide<A>,
+    rewound: &Rewound<A>,
+    out: &mut W,
+) -> Result<bool, LabFault> {
+    if is_same(rewound) {
+        writeln!(out, " same")?;
+        return Ok(true);
+    }
+    let Told { entries, events } = &side.told;
+    let lines = event_lines(alloc, entries)?;
+    write!(out, " differs: ")?;
+    print_difference(alloc, &side.book, events, &rewound.others, &lines, out)?;
+    writeln!(out)?;
+    Ok(false)
+}
+
+/// Prints the line of an undone attempt; answers whether it left no trace.
+fn print_attempt<A: Allocator + Copy, W: Write>(
+    alloc: A,
+    side: &ToldSide<A>,
+    opening: Opening,
+    rewound: &Rewound<A>,
+    out: &mut W,
+) -> Result<bool, LabFault> {
+    print_opening(alloc, side, opening, rewound, out)?;
+    print_remainder(alloc, side, rewound, out)?;
+    print_verdict(alloc, side, rewound, out)
 }
 
 /// Prints the line of the attempt that opens in an entry at a place, where it is undone later; answers whether it left no
@@ -118,8 +164,13 @@ fn list_entry<A: Allocator + Copy, W: Write>(
     let Some(call) = opened_by(entry.event) else {
         return Ok(true);
     };
+    let opening = Opening {
+        line: entry.line(),
+        at,
+        call,
+    };
     match rewind(alloc, &side.book, &side.told.events, at) {
-        Ok(rewound) => print_attempt(alloc, side, entry, call, at, &rewound, out),
+        Ok(rewound) => print_attempt(alloc, side, opening, &rewound, out),
         Err(RewindFault::NoAttempt) => Ok(true),
         Err(RewindFault::NoMemory) => Err(LabFault::NoMemory),
     }
@@ -144,18 +195,24 @@ fn told_side<A: Allocator + Copy, W: Write>(
     alloc: A,
     mark: Mark,
     site: Site<A>,
-    trace: &str,
+    texts: Texts<'_>,
     out: &mut W,
 ) -> Result<Option<ToldSide<A>>, LabFault> {
-    if let Some(number) = first_unreadable(trace) {
+    if let Some(number) = first_unreadable(texts.trace) {
         refuse_line(number, out)?;
         return Ok(None);
     }
     let book = fresh_book(alloc, site)?;
-    match told_entries(alloc, &book, trace, out)? {
-        Some(told) => Ok(Some(ToldSide { mark, book, told })),
-        None => Ok(None),
-    }
+    let Some(told) = told_entries(alloc, &book, texts.trace, out)? else {
+        return Ok(None);
+    };
+    let choices = choices_of_trace(alloc, texts, &told)?;
+    Ok(Some(ToldSide {
+        mark,
+        book,
+        told,
+        choices,
+    }))
 }
 
 /// How a list ended, of attempts none of which left a trace or not.
@@ -167,14 +224,43 @@ fn status_of(is_same: bool) -> Status {
     }
 }
 
+/// The texts of the sites and of a trace, and memory that serves while the sites' are read.
+#[derive(Clone, Copy)]
+struct SidesTexts<'a> {
+    scratch: Global,
+    site: &'a str,
+    peer: &'a str,
+    trace: &'a str,
+}
+
+impl<'a> SidesTexts<'a> {
+    /// Those of the first controller, of which this is the trace.
+    fn first(self, trace: &'a str) -> Texts<'a> {
+        Texts {
+            scratch: self.scratch,
+            site: self.site,
+            trace,
+        }
+    }
+
+    /// Those of the second one, of which this is the trace.
+    fn second(self, trace: &'a str) -> Texts<'a> {
+        Texts {
+            scratch: self.scratch,
+            site: self.peer,
+            trace,
+        }
+    }
+}
+
 /// Lists the attempts of one controller.
 fn list_one<A: Allocator + Copy, W: Write>(
     alloc: A,
     site: Site<A>,
-    trace: &str,
+    texts: Texts<'_>,
     out: &mut W,
 ) -> Result<Status, LabFault> {
-    let Some(side) = told_side(alloc, Mark::Alone, site, trace, out)? else {
+    let Some(side) = told_side(alloc, Mark::Alone, site, texts, out)? else {
         return Ok(Status::Refused);
     };
     Ok(status_of(list_side(alloc, &side, out)?))
@@ -185,15 +271,15 @@ fn list_two<A: Allocator + Copy, W: Write>(
     alloc: A,
     site: Site<A>,
     peer: Site<A>,
-    trace: &str,
+    texts: SidesTexts<'_>,
     out: &mut W,
 ) -> Result<Status, LabFault> {
-    let text = side_text(alloc, Mark::First, trace)?;
-    let Some(first) = told_side(alloc, Mark::First, site, &text, out)? else {
+    let trace = side_text(alloc, Mark::First, texts.trace)?;
+    let Some(first) = told_side(alloc, Mark::First, site, texts.first(&trace), out)? else {
         return Ok(Status::Refused);
     };
-    let text = side_text(alloc, Mark::Peer, trace)?;
-    let Some(second) = told_side(alloc, Mark::Peer, peer, &text, out)? else {
+    let trace = side_text(alloc, Mark::Peer, texts.trace)?;
+    let Some(second) = told_side(alloc, Mark::Peer, peer, texts.second(&trace), out)? else {
         return Ok(Status::Refused);
     };
     let is_first_same = list_side(alloc, &first, out)?;
@@ -205,16 +291,13 @@ fn list_two<A: Allocator + Copy, W: Write>(
 fn list_sides<A: Allocator + Copy, W: Write>(
     alloc: A,
     sites: Sites<A>,
-    trace: &str,
+    texts: SidesTexts<'_>,
     out: &mut W,
 ) -> Result<Status, LabFault> {
     let Sites { first, peer } = sites;
-    if !is_of_two(trace) {
-        return list_one(alloc, first, trace, out);
-    }
     match peer {
-        Some(peer) => list_two(alloc, first, peer, trace, out),
-        None => list_one(alloc, first, trace, out),
+        Some(peer) if is_of_two(texts.trace) => list_two(alloc, first, peer, texts, out),
+        Some(_) | None => list_one(alloc, first, texts.first(texts.trace), out),
     }
 }
 
@@ -224,8 +307,8 @@ fn list_sides<A: Allocator + Copy, W: Write>(
 ///
 /// A line has `line` and the number of the one in which the attempt opened, counted from 1; `call` and its call; its kind, and
 /// the stage in which it was taken back; and then, as [`rewind_run`](read_traces::rewound::rewind_run) says them, `others`
-/// with the lines of their events, `settled`, `held`, and `same` or `differs`. The answer is `Done`, or `Differs` where one
-/// differs.
+/// with the lines of their events, `settled`, `held`, `choices`, and `same` or `differs: ` and what does first. The answer is
+/// `Done`, or `Differs` where one differs.
 ///
 /// What is refused there is refused here, by the same line, and nothing else is printed; so is a trace of two controllers
 /// where there is no second site. `scratch` serves while the sites are read, `alloc` for all else. Once memory was refused
@@ -238,8 +321,14 @@ pub fn list_run<A: Allocator + Copy, W: Write>(
     trace: &str,
     out: &mut W,
 ) -> Result<Status, LabFault> {
+    let texts = SidesTexts {
+        scratch,
+        site,
+        peer: peer.unwrap_or(""),
+        trace,
+    };
     match read_sites(alloc, scratch, site, peer) {
-        Ok(sites) => list_sides(alloc, sites, trace, out),
+        Ok(sites) => list_sides(alloc, sites, texts, out),
         Err(fault) => refuse_site::<A, _>(fault, &mut Printing::new(out)),
     }
 }

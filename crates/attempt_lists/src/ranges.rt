@@ -1,4 +1,4 @@
-//! The lines of events, as ranges.
+//! The numbers of lines, as they stand in a line.
 use read_traces::entries::Entry;
 use std::fmt;
 
@@ -8,6 +8,23 @@ use std::fmt;
 pub(crate) struct Ranges<'a> {
     pub(crate) entries: &'a [Entry],
     pub(crate) places: &'a [usize],
+}
+
+/// The numbers of lines, with a comma between any two; `-` of none.
+#[derive(Clone, Copy)]
+pub(crate) struct Numbers<'a>(pub(crate) &'a [usize]);
+
+impl fmt::Display for Numbers<'_> {
+    fn fmt<W: fmt::Write>(&self, f: &mut fmt::Formatter<W>) -> fmt::Result {
+        let Some((first, others)) = self.0.split_first() else {
+            return f.write_str("-");
+        };
+        write!(f, "{first}")?;
+        for number in others {
+            write!(f, ",{number}")?;
+        }
+        Ok(())
+    }
 }
 
 /// Entries that follow one another: the places of the first and of the last.

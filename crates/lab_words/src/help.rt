@@ -95,7 +95,7 @@ pub(crate) const RUN_HELP: &str = with_script_lines!(
     "",
     "
 
-With --audit three lines more stand at the end, which bsc_lab help audit explains; with --summary
+With --audit four lines more stand at the end, which bsc_lab help audit explains; with --summary
 those of bsc_lab help summary.
 
 Statuses: 0 the script was run, 1 with --audit: something differs, 2 a file, the site or a line of
@@ -183,10 +183,11 @@ As in: bsc_lab check site.toml";
 /// What stands behind the help of `rewind`.
 pub(crate) const REWIND_HELP: &str = "\
 Prints how many events are left (others), whether no release of the target is awaited (settled),
-the line of the first event that was refused for the attempt's sake (held), and whether the book
-and the replies are the same without the attempt. With --all these stand in one line for each
-undone attempt, behind the line in which it opened, its call, its kind and its stage; others are the
-lines of events then.
+the line of the first event that was refused for the attempt's sake (held), the lines in which
+another channel would have been chosen without it, or one (choices), and whether the book and the
+replies are the same then, or what differs first. With --all these stand in one line for each undone
+attempt, behind the line in which it opened, its call, its kind and its stage; others are the lines
+of events then.
 
 Statuses: 0 they are, 1 they differ, 2 a file, the site or a line of the trace is refused, or no
 undone attempt opens in the line, 3 memory was refused.
@@ -196,8 +197,9 @@ As in: bsc_lab rewind site.toml run.trace 8";
 /// What stands behind the help of `audit`.
 pub(crate) const AUDIT_HELP: &str = "\
 Prints how many attempts at handover were undone, and await no release (attempts), the line of the
-first event that was refused for the sake of one of them (held), and whether the book and the
-replies are the same without all of them.
+first event that was refused for the sake of one of them (held), the lines in which another channel
+would have been chosen without all of them, or one (choices), and whether the book and the replies
+are the same then, or what differs first.
 
 Statuses: 0 they are, 1 they differ, 2 a file, the site or a line of the trace is refused, 3 memory
 was refused.

@@ -201,7 +201,15 @@ fn rewind_command<'a>(alloc: Global) -> Result<Command<'a>, AllocError> {
         .arg(trace_argument(alloc))?
         .arg(line_argument(alloc)?)?
         .arg(each_argument(alloc)?)?
-        .arg(peer_argument(alloc).requires_arg("all")?)
+        .arg(sides_argument(alloc)?)
+}
+
+/// `--peer SITE` of `rewind`, with `--all` alone.
+fn sides_argument<'a>(alloc: Global) -> Result<Arg<'a>, AllocError> {
+    // what is required is passed over where something that excludes it is given, as the line is
+    peer_argument(alloc)
+        .requires_arg("all")?
+        .conflicts_with("LINE")
 }
 
 /// `--all` of `rewind`.

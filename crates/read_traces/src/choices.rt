@@ -24,12 +24,20 @@ pub struct Texts<'a> {
     pub trace: &'a str,
 }
 
+/// The text of an input without the line of the script that gave it, which may stand behind it.
+fn without_origin(input: &str) -> &str {
+    match input.split_once(" @") {
+        Some((input, _)) => input,
+        None => input,
+    }
+}
+
 /// The inputs of a trace, as a script.
 fn script_of<A: Allocator>(alloc: A, trace: &str) -> Result<String<A>, AllocError> {
     let mut script = String::new(alloc);
     for line in trace.split('\n') {
         if let Some(input) = without_return(line).strip_prefix("in ") {
-            script.push_str(input)?;
+            script.push_str(without_origin(input))?;
             script.push('\n')?;
         }
     }
