@@ -86,7 +86,7 @@ stays. Six packets: the messages have 12, 12, 7, 7, 4 and 4 octets.
   6
   $ tail -n 1 run.svg
   </svg>
-  $ grep -c -e '>controller 2<' -e '>stations 2<' run.svg
+  $ grep -c -e '>controller 2<' -e '>station 0 of 2<' run.svg
   4
 
 A mobile comes back.
@@ -282,4 +282,4 @@ other half has none, nor has a channel number of another type (TS 48.058 clause 
   2: in abis 0 0 08240113 # no call
   2: in abis 0 0 08240123 # no call
   1: in open 1 0 0 1 # call 1
-  1: in abis 0 0 08330109 # call 1; RF CHANNEL RELEASE ACK tn=1
+  1: in abis 0 0 08330109 # call 1; RF CHANNEL RELEASE ACK tn=1; ignored: this stage doesn't expect it
