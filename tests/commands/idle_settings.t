@@ -1,5 +1,6 @@
 Lines for simulated stations and mobiles that come to nothing: the site lacks the channel, or nothing happens there behind
-them that they are about. `run` says so on standard error at its end; a test isn't met.
+them that they are about. A mobile's habit is about a HANDOVER COMMAND. `run` says so on standard error at its end; a test
+isn't met.
 
   $ cat >idle.txt <<'END'
   > sim
@@ -10,7 +11,9 @@ them that they are about. `run` says so on standard error at its end; a test isn
   > mobile 0 0 3 return
   > double 0 0 2
   > cut 0 0 2 1
-  > clear 1
+  > a 1 000420040109
+  > let 9 9 7
+  > let 0 0 3
   > #> ..
   > END
   $ ./lab run examples/two_cells.toml idle.txt 2>&1 >/dev/null
@@ -20,13 +23,32 @@ them that they are about. `run` says so on standard error at its end; a test isn
   idle.txt:6: never used: nothing comes of it on 0/0/3
   idle.txt:7: never used: nothing comes of it on 0/0/2
   idle.txt:8: never used: nothing comes of it on 0/0/2
+  idle.txt:10: the site has no channel 9/9/7
   $ ./lab test examples/two_cells.toml idle.txt 2>/dev/null
   1..1
   not ok 1 - idle.txt
   # line 2 comes to nothing
+  # line 4 comes to nothing
+  # line 5 comes to nothing
+  # line 6 comes to nothing
+  # line 7 comes to nothing
+  # line 8 comes to nothing
+  # line 10 comes to nothing
   [1]
 
-All of these are used.
+What else isn't met stands behind them.
+
+  $ printf 'sim\nrefuse 0 0 5\nopen 1 0 0 3\n#= calls 2\n' >both.txt
+  $ ./lab test examples/two_cells.toml both.txt 2>/dev/null
+  1..1
+  not ok 1 - both.txt
+  # line 2 comes to nothing
+  # line 4
+  # expected: calls 2
+  # came: calls 1
+  [1]
+
+All of these are used; what is cut may not say any more which channel it is about. Where nothing is let go nothing is said.
 
   $ cat >used.txt <<'END'
   > sim
@@ -40,9 +62,16 @@ All of these are used.
   > handover 1 1
   > cut 0 0 3 1
   > clear 1
+  > let 0 0 3
   > #> ..
   > END
   $ ./lab run examples/two_cells.toml used.txt 2>&1 >/dev/null
   $ ./lab test examples/two_cells.toml used.txt
   1..1
   ok 1 - used.txt
+
+A channel is looked for at the controller whose mark the line has.
+
+  $ printf 'sim\n2: hold 0 0 3\n2: open 1 0 0 1\n#> ..\n' >two.txt
+  $ ./lab run examples/two_cells.toml two.txt --peer examples/one_cell.toml 2>&1 >/dev/null
+  two.txt:2: the site has no channel 0/0/3

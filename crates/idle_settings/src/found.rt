@@ -1,12 +1,14 @@
 //! The settings of a script that come to nothing.
-use crate::used::uses;
+use crate::used::is_used;
 use bts_model::{Act, Setting};
 use cell_table::Site;
 use channel_fsm::ChanId;
 use lab_runs::listener::Printing;
 use lab_runs::run::{LabFault, Sites, play};
 use lab_runs::turn::{Source, Turn};
-use lab_script::script::{Given, Item, ScriptFault, Side, is_blank, is_comment, read_script, without_return};
+use lab_script::script::{
+    Given, Item, ScriptFault, Side, is_blank, is_comment, read_script, without_return,
+};
 use std::alloc::{AllocError, Allocator};
 use std::io;
 
@@ -119,21 +121,6 @@ fn turns_behind<A: Allocator>(turns: &[Turn<A>], inputs: usize) -> &[Turn<A>] {
     rest
 }
 
-/// Whether one of these turns, those of a side, uses a setting.
-fn is_used<A: Allocator + Copy>(
-    alloc: A,
-    turns: &[Turn<A>],
-    side: Side,
-    setting: Setting,
-) -> Result<bool, AllocError> {
-    for turn in turns {
-        if turn.side == side && uses(alloc, turn, chan_of(setting), setting.act)? {
-            return Ok(true);
-        }
-    }
-    Ok(false)
-}
-
 /// Whether a line that brings messages of simulators comes before the next that gives an input: then it isn't known which
 /// messages came of it.
 fn is_unclear(behind: &[Line]) -> bool {
@@ -174,7 +161,9 @@ impl<A: Allocator + Copy> Search<'_, A> {
         let chan = chan_of(setting);
         let is_there = is_there(self.sites, side, chan);
         let turns = turns_behind(self.turns, self.inputs);
-        if is_there && (is_unclear(behind) || is_used(self.alloc, turns, side, setting)?) {
+        if is_there
+            && (is_unclear(behind) || is_used(self.alloc, turns, side, chan, setting.act)?)
+        {
             return Ok(());
         }
         self.idle.push(Idle {

@@ -5,6 +5,7 @@ use crate::script_notes::{say_bare_returns, say_idle_settings, say_slipped};
 use crate::script_sites::{ScriptSites, fault_of, sites_of_script};
 use crate::site_files::{SitePaths, SiteTexts, say_reasons, site_texts};
 use expectations::Recording;
+use idle_settings::Idle;
 use lab_runs::listener::Printing;
 use lab_runs::run::{LabFault, Status, refuse_site};
 use std::alloc::Global;
@@ -12,7 +13,7 @@ use std::io::{self, Write};
 use std::rt::Files;
 use tested_scripts::recorded::record_run;
 use tested_scripts::tested::{Numbered, test_run};
-use tested_scripts::{Miss, print_miss, print_plan};
+use tested_scripts::{Miss, print_miss, print_not_met, print_plan, print_reason};
 use undone_runs::tried::{Trial, try_undos};
 use undone_runs::{Tally, print_tally};
 
@@ -32,6 +33,40 @@ struct GivenSites<'a> {
     texts: SiteTexts,
 }
 
+/// Prints that a script isn't met, since lines of it come to nothing.
+fn print_idle<W: Write>(idle: &[Idle], test: Numbered<'_>, out: &mut W) -> io::Result<()> {
+    print_not_met(out, test.number, test.name)?;
+    for setting in idle {
+        print_reason(out, Miss::Idle(setting.line))?;
+    }
+    Ok(())
+}
+
+/// What is printed of a test behind its first line, which says whether it is met.
+fn behind_first(printed: &[u8]) -> &[u8] {
+    match printed.iter().position(|octet| *octet == b'\n') {
+        Some(end) => printed.get(end.saturating_add(1)..).unwrap_or(&[]),
+        None => &[],
+    }
+}
+
+/// Tests a script of which lines come to nothing: it isn't met, and these stand before what else isn't.
+fn test_idle<W: Write>(
+    alloc: Global,
+    sites: &SiteTexts,
+    script: &str,
+    test: Numbered<'_>,
+    idle: &[Idle],
+    out: &mut W,
+) -> Result<Status, LabFault> {
+    print_idle(idle, test, out)?;
+    let (first, peer) = (sites.first(), sites.peer());
+    let mut printed = Vec::new(alloc);
+    test_run(alloc, alloc, first, peer, script, test, &mut printed)?;
+    out.write_all(behind_first(&printed))?;
+    Ok(Status::Differs)
+}
+
 /// Tests a script over sites that can be run over.
 fn test_over<W: Write, E: Write>(
     alloc: Global,
@@ -41,9 +76,9 @@ fn test_over<W: Write, E: Write>(
     out: &mut W,
     errors: &mut E,
 ) -> Result<Status, LabFault> {
-    if let Some(line) = say_idle_settings(alloc, test.name, sites, script, errors)? {
-        print_miss(out, test.number, test.name, Miss::Idle(line))?;
-        return Ok(Status::Differs);
+    let idle = say_idle_settings(alloc, test.name, sites, script, errors)?;
+    if !idle.is_empty() {
+        return test_idle(alloc, sites, script, test, &idle, out);
     }
     let peer = sites.peer();
     let status = test_run(alloc, alloc, sites.first(), peer, script, test, out)?;

@@ -59,7 +59,10 @@ fn say_idle<E: Write>(path: &str, idle: Idle, errors: &mut E) -> io::Result<()> 
     } = idle;
     let path = Escaped(path);
     if is_there {
-        writeln!(errors, "{path}:{line}: never used: nothing comes of it on {chan}")
+        writeln!(
+            errors,
+            "{path}:{line}: never used: nothing comes of it on {chan}"
+        )
     } else {
         writeln!(errors, "{path}:{line}: the site has no channel {chan}")
     }
@@ -74,20 +77,20 @@ fn sites_of(alloc: Global, texts: &SiteTexts) -> Result<Option<Sites>, LabFault>
     }
 }
 
-/// Says which settings of a script come to nothing; answers the number of the first one's line, if there is one.
+/// Says which settings of a script come to nothing, and answers them.
 pub(crate) fn say_idle_settings<E: Write>(
     alloc: Global,
     path: &str,
     texts: &SiteTexts,
     script: &str,
     errors: &mut E,
-) -> Result<Option<usize>, LabFault> {
+) -> Result<Vec<Idle>, LabFault> {
     let (Some(sites), Some(for_run)) = (sites_of(alloc, texts)?, sites_of(alloc, texts)?) else {
-        return Ok(None);
+        return Ok(Vec::new(alloc));
     };
     let idle = idle_settings(alloc, &sites, for_run, script)?;
     for setting in &idle {
         say_idle(path, *setting, errors)?;
     }
-    Ok(idle.first().map(|first| first.line))
+    Ok(idle)
 }
