@@ -84,10 +84,7 @@ impl<A: Allocator + Copy> EventLines<A> {
     /// The lines of what a controller asked.
     pub fn asked(&self, side: Side) -> AskedLines<'_> {
         let SideLines { events, none_free } = self.of(side);
-        AskedLines {
-            events,
-            none_free,
-        }
+        AskedLines { events, none_free }
     }
 
     /// The line in which the event of a controller stands at a place, counted from 0.

@@ -137,6 +137,23 @@ fn all_beside<A: Allocator + Copy>(
     Ok(AllBeside { first, peer })
 }
 
+/// What the audits of the controllers of a run come to, whose lines were noted, and to which what is told beside is noted.
+fn audits_told<A: Allocator + Copy, L: Listener<A>>(
+    alloc: A,
+    run: &Run<A>,
+    noting: &mut Noting<'_, L, A>,
+) -> Result<Audits, LabFault>
+    ensures first { IfOk result (λ audits.
+        IsAuditOf run.now.controllers.first.0.desk audits.first.audit) }
+    ensures peer { IfOk result (λ audits.
+        AreTold (option_list audits.peer) (option_list run.now.controllers.peer)) }
+{
+    let audits = audits_of(&run.controllers, noting.lines())?;
+    let beside = all_beside(alloc, run, noting.lines(), &audits)?;
+    noting.tell_beside(beside);
+    Ok(audits)
+}
+
 /// Runs a script over sites that were read, and audits its controllers at the end.
 fn audit_played<A: Allocator + Copy, L: Listener<A>>(
     alloc: A,
@@ -150,12 +167,7 @@ fn audit_played<A: Allocator + Copy, L: Listener<A>>(
         AreAuditsOf A (views_of sites) script.now audits)) }
 {
     match play(alloc, sites, script, noting)? {
-        Some(run) => {
-            let audits = audits_of(&run.controllers, noting.lines())?;
-            let beside = all_beside(alloc, &run, noting.lines(), &audits)?;
-            noting.tell_beside(beside);
-            Ok(Some(audits))
-        }
+        Some(run) => Ok(Some(audits_told(alloc, &run, noting)?)),
         None => Ok(None),
     }
 }

@@ -129,6 +129,21 @@ fn audit_told<A: Allocator + Copy, W: Write>(
     }
 }
 
+/// The same of a trace that was read.
+fn audit_read<A: Allocator + Copy, W: Write>(
+    alloc: A,
+    book: Book<A>,
+    texts: Texts<'_>,
+    told: &Told<A>,
+    out: &mut W,
+) -> Result<Status, LabFault>
+    ensures done { result ≡ Ok Status.Done → OfTheHistory LeadsAlike book told.now.events.items }
+    ensures differs { result ≡ Ok Status.Differs → OfTheHistory LeadsApart book told.now.events.items }
+{
+    let choices = choices_of_trace(alloc, texts, told)?;
+    audit_told(alloc, book, told, &choices, out)
+}
+
 /// Takes all settled attempts out of a trace whose lines can be read.
 fn audit_entries<A: Allocator + Copy, W: Write>(
     alloc: A,
@@ -142,10 +157,7 @@ fn audit_entries<A: Allocator + Copy, W: Write>(
         OfTheHistory LeadsApart book (said.events_of (said.entries_of texts.entry.trace.now)) }
 {
     match told_entries(alloc, &book, texts.trace, out)? {
-        Some(told) => {
-            let choices = choices_of_trace(alloc, texts, &told)?;
-            audit_told(alloc, book, &told, &choices, out)
-        }
+        Some(told) => audit_read(alloc, book, texts, &told, out),
         None => Ok(Status::Refused),
     }
 }

@@ -60,13 +60,15 @@ impl<A: Allocator + Copy> Walk<'_, A> {
 
     /// Looks at the choices before the event at a place.
     fn look_before(&mut self, place: usize) -> Result<(), AllocError> {
-        while let [choice, others @ ..] = self.choices {
+        let mut left = self.choices;
+        while let [choice, others @ ..] = left {
             if choice.before > place {
                 break;
             }
             self.look_at(choice)?;
-            self.choices = others;
+            left = others;
         }
+        self.choices = left;
         Ok(())
     }
 

@@ -84,17 +84,12 @@ fn line_of<'a>(lines: &'a str, subject: &str) -> Option<&'a str> {
 
 /// The first line of some that isn't among others.
 fn first_lost<'a>(lines: &'a str, others: &str) -> Option<&'a str> {
-    lines
-        .split('\n')
-        .find(|line| !line.is_empty() && !others.split('\n').any(|other| other == *line))
+    lines.split('\n').find(|line| !line.is_empty()
+        && !others.split('\n').any(|other| other == *line))
 }
 
 /// Prints what a book holds and another doesn't, the first such, and what the other has in its place.
-fn print_states<W: Write>(
-    out: &mut W,
-    whole: &str,
-    alone: &str,
-) -> Result<(), LabFault> {
+fn print_states<W: Write>(out: &mut W, whole: &str, alone: &str) -> Result<(), LabFault> {
     let subject = match first_lost(whole, alone) {
         Some(line) => subject_of(line),
         None => match first_lost(alone, whole) {
