@@ -227,7 +227,14 @@ pub fn answer_to<A: Allocator + Copy>(
 ) -> Result<String<A>, AllocError> {
     let (mark, text) = cut_mark(expected);
     match question_of(text) {
-        Some(question) => format!(in alloc; "{}", Answer { question, mark, lines }),
+        Some(question) => {
+            let answer = Answer {
+                question,
+                mark,
+                lines,
+            };
+            format!(in alloc; "{answer}")
+        }
         None => String::from_str(alloc, "no such expectation"),
     }
 }

@@ -1,12 +1,12 @@
 -- Facts of the places to which lines lead.
-use Rattle.std.proofs.Common.{◌≡◌, ◌≢◌, ◌⊎◌, inl, inr, ◌↔◌, ℕ, zero, suc, ◌+◌, ◌<◌, ◌≤◌, Bool, true, false, if◌then◌else◌, rules, List, [], ◌∷◌, ◌++◌, Option, Some, None, refl, sym, ap, subst, ◌∙◌, arith, length, take, drop, get_or, add-one, filter_map, min, max, nat_lt, Result, Ok, Err, IfOk, take_all}
+use Rattle.std.proofs.Common.{◌≡◌, ◌≢◌, ◌⊎◌, inl, inr, ◌↔◌, ℕ, zero, suc, ◌+◌, ◌<◌, ◌≤◌, Bool, true, false, if◌then◌else◌, rules, List, [], ◌∷◌, ◌++◌, Option, Some, None, refl, sym, ap, subst, ◌∙◌, arith, length, take, drop, get_or, add-one, filter_map, min, max, nat_lt, Result, Ok, Err, IfOk, take_all, map, zip, Bor}
 use Rattle.std.proofs.lemmas.List.{get_or_default}
 use Rattle.std.proofs.lemmas.Bool.{cases_Bool, ltb-true, ltb-false}
 use Rattle.std.specs.List.{Contains, cons_option, slice_get, list_any}
 use Rattle.std.proofs.lemmas.List.Elements.{Contains-append_left, Contains-append_right, Contains-append_cases}
 use Rattle.std.proofs.Math.Seq.{take-suc, take-nil}
 use Rattle.std.proofs.lemmas.List.Elements.{filter_map-append}
-use Rattle.tested_scripts.specs.Lines.{expected_in, is_any}
+use Rattle.tested_scripts.specs.Lines.{texts_of, expected_in, is_any}
 use Rattle.tested_scripts.specs.declared.compare.CameLine.{CameLine}
 use Rattle.tested_scripts.specs.Meeting.{Said, said_of, Takes, Reaches, AreNext, is_at, behind, is_echo, echo_or, begins_with_echo}
 
@@ -260,20 +260,37 @@ any_said test [] = refl
 any_said test (line ∷ came) = rw (any_said test came) refl
 
 -- behind a line that expects nothing the others say whether the echo is there
-pub echo_next : (lines : List (List ℕ)) (i : ℕ) → i < length lines → expected_in (get_or lines i []) ≡ None → begins_with_echo (drop i lines) ≡ begins_with_echo (drop (suc i) lines)
-echo_next [] i l e = absurd (omega (arith, l))
-echo_next (line ∷ lines) zero l e = ap (λ (o : Option (List ℕ)). echo_or o (begins_with_echo lines)) e
-echo_next (line ∷ lines) (suc i) l e = echo_next lines i (omega (arith, l)) e
+pub echo_next : (lines : List (Bor (List ℕ))) (i : ℕ) (d : Bor (List ℕ)) → i < length lines → expected_in (get_or lines i d).now ≡ None
+    → begins_with_echo (drop i (texts_of lines)) ≡ begins_with_echo (drop (suc i) (texts_of lines))
+echo_next [] i d l e = absurd (omega (arith, l))
+echo_next (line ∷ lines) zero d l e = ap (λ (o : Option (List ℕ)). echo_or o (begins_with_echo (texts_of lines))) e
+echo_next (line ∷ lines) (suc i) d l e = echo_next lines i d (omega (arith, l)) e
 
 -- one that expects something says so itself
-pub echo_here : (lines : List (List ℕ)) (i : ℕ) (text : List ℕ) → i < length lines → expected_in (get_or lines i []) ≡ Some text → begins_with_echo (drop i lines) ≡ is_echo text
-echo_here [] i text l e = absurd (omega (arith, l))
-echo_here (line ∷ lines) zero text l e = ap (λ (o : Option (List ℕ)). echo_or o (begins_with_echo lines)) e
-echo_here (line ∷ lines) (suc i) text l e = echo_here lines i text (omega (arith, l)) e
+pub echo_here : (lines : List (Bor (List ℕ))) (i : ℕ) (d : Bor (List ℕ)) (text : List ℕ) → i < length lines → expected_in (get_or lines i d).now ≡ Some text
+    → begins_with_echo (drop i (texts_of lines)) ≡ is_echo text
+echo_here [] i d text l e = absurd (omega (arith, l))
+echo_here (line ∷ lines) zero d text l e = ap (λ (o : Option (List ℕ)). echo_or o (begins_with_echo (texts_of lines))) e
+echo_here (line ∷ lines) (suc i) d text l e = echo_here lines i d text (omega (arith, l)) e
 
 -- where none is left, none is expected
-pub echo_none : (lines : List (List ℕ)) (i : ℕ) → length lines ≤ i → begins_with_echo (drop i lines) ≡ true
+pub echo_none : (lines : List (Bor (List ℕ))) (i : ℕ) → length lines ≤ i → begins_with_echo (drop i (texts_of lines)) ≡ true
 echo_none [] zero l = refl
 echo_none [] (suc i) l = refl
 echo_none (line ∷ lines) zero l = absurd (omega (arith, l))
 echo_none (line ∷ lines) (suc i) l = echo_none lines i (omega (arith, l))
+
+-- a line with its words
+abbrev pub came_line : Bor (List ℕ) × Bor (List ℕ) → CameLine
+came_line two = record { text = two.0; words = two.1 }
+
+pub said_paired : (lines words : List (Bor (List ℕ))) → said_of (map came_line (zip lines words)) ≡ zip (texts_of lines) (texts_of words)
+said_paired [] words = refl
+said_paired (line ∷ lines) [] = refl
+said_paired (line ∷ lines) (word ∷ words) = rw (said_paired lines words) refl
+
+-- the same of what is made, unless memory is refused
+pub if_paired : {T E : Type 0} (items : T → List CameLine) (r : Result T E) (lines words : List (Bor (List ℕ)))
+    → IfOk r (λ came. items came ≡ map came_line (zip lines words)) → IfOk r (λ came. said_of (items came) ≡ zip (texts_of lines) (texts_of words))
+if_paired items (Ok came) lines words e = ap (λ (xs : List CameLine). said_of xs) e ∙ said_paired lines words
+if_paired items (Err fault) lines words e = e

@@ -42,7 +42,7 @@ answered hears hears_end lines place met compares all l (one ∷ told) m came en
       each = ap suc rest.each;
       held = rest.held;
       is = (
-        λ yes. let after = more.0 yes in let before = part.0 after.0 in (before.0, before.1, after.1),
+        λ yes. let after = more.0 yes in let before = part.0 after.0 in (before.0, (before.1, after.1)),
         λ h. more.1 (part.1 (h.0, h.1.0), h.1.1),
       );
     }

@@ -28,14 +28,14 @@ fn paired<'a, A: Allocator>(
     ensures { IfOk result (λ came. said_of came.items ≡
         zip (expected.texts_of lines.now) (expected.texts_of words.now)) }
 {
-    let mut came = Vec::new(alloc);
-    for (text, words) in lines.iter().zip(words.iter()) {
-        came.push(CameLine {
+    lines
+        .iter()
+        .zip(words.iter())
+        .map(|(text, words)| CameLine {
             text: *text,
             words: *words,
-        })?;
-    }
-    Ok(came)
+        })
+        .collect(alloc)
 }
 
 /// The lines that came, by what a run printed of them, and of their words.

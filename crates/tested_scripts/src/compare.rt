@@ -187,13 +187,20 @@ fn line_at<'a>(lines: &[&'a str], place: usize) -> &'a str
     }
 }
 
+/// Whether what is expected is the echo of a script's line, or may be.
+fn is_echo(text: &str) -> bool
+    ensures { result ≡ said.is_echo text.now }
+{
+    is_any(text) || is_input(text)
+}
+
 /// Whether the first that lines expect is the echo of the script's line, or may be.
 fn begin_with_echo(lines: &[&str]) -> bool
     ensures { result ≡ said.begins_with_echo (texts_of lines.now) }
 {
     for line in lines {
         if let Some(text) = expected_in(*line) {
-            return is_any(text) || is_input(text);
+            return is_echo(text);
         }
     }
     true

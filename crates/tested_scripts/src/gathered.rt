@@ -148,7 +148,12 @@ impl<A: Allocator + Copy> Gathered<A> {
 
     /// Gathers the words of what came of an input.
     fn say(&mut self, mark: Mark, turn: &Turn<A>) -> Result<(), LabFault> {
-        print_said(self.alloc, &mut self.words, mark, &TraceLine::Input(&turn.input))?;
+        print_said(
+            self.alloc,
+            &mut self.words,
+            mark,
+            &TraceLine::Input(&turn.input),
+        )?;
         print_unsaid(&mut self.words, turn.steps.len())?;
         match &turn.answer {
             Answer::Sent(sent) => self.say_all(mark, sent),

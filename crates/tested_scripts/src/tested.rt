@@ -90,9 +90,10 @@ fn came_at<'a>(
 /// Whether a text that is expected is that of a message in words: behind its link, its place and a blank stands a capital
 /// letter.
 fn is_in_words(expected: &str) -> bool {
-    expected
-        .split(' ')
-        .any(|word| word.bytes().next().is_some_and(|first| first.is_ascii_uppercase()))
+    expected.split(' ').any(|word| word
+        .bytes()
+        .next()
+        .is_some_and(|first| first.is_ascii_uppercase()))
 }
 
 /// A line that came, as it is shown beside what is expected: in words where that is.

@@ -4,8 +4,8 @@ use lab_script::script::without_return;
 use std::process::Abort;
 use std::str;
 use tested_scripts::{
-    CameLine, Difference, Miss, ending_of, expected_in, find_difference, find_last_difference, is_any,
-    is_script_line, lines_of, part_end, print_met, print_miss, print_plan, print_recorded,
+    CameLine, Difference, Miss, ending_of, expected_in, find_difference, find_last_difference,
+    is_any, is_script_line, lines_of, part_end, print_met, print_miss, print_plan, print_recorded,
 };
 
 #[test]
