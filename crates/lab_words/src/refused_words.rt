@@ -69,7 +69,7 @@ fn with_decode_usage(alloc: Global, line: &str) -> Result<String, AllocError> {
 
 /// Commands with numbers among their words, those numbers, and what they may be.
 const NUMBERS: &[(&str, &str, &str)] = &[
-    ("rewind", "'<LINE>'", "; LINE is a number from 1 on"),
+    ("rewind", "'[LINE]'", "; LINE is a number from 1 on"),
     ("storm", "'--workers <N>'", "; N is a number from 1 to 16"),
     ("storm", "'--calls <M>'", "; M is a number from 1 to 1024"),
     ("refused", "'<N>'", "; N is a number from 1 to 9"),
