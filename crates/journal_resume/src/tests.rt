@@ -56,7 +56,12 @@ fn the_book_is_that_of_the_records(rt: HostRuntime) -> Result<(), Fail> {
     Ok(())
 }
 
-fn is_refused(rt: &impl Abort, alloc: Global, octets: &[u8], wanted: ResumeFault) -> Result<(), Fail> {
+fn is_refused(
+    rt: &impl Abort,
+    alloc: Global,
+    octets: &[u8],
+    wanted: ResumeFault,
+) -> Result<(), Fail> {
     match resume(alloc, fresh_book(alloc)?, 7, octets) {
         Ok(_) => panic!(rt; "{wanted}"),
         Err(fault) => assert_eq!(rt; fault, wanted),
@@ -118,6 +123,9 @@ fn what_was_sent_is_told_once_more(rt: HostRuntime) -> Result<(), Fail> {
     tell_sent(&mut told, &octets, 8)?;
     assert!(rt; told.is_empty());
     tell_sent(&mut told, &octets, 7)?;
-    assert_eq!(rt; told.as_slice(), b"8: out abis 0 0 0821010b0300060400010801\n".as_slice());
+    assert_eq!(rt;
+        told.as_slice(),
+        b"8: out abis 0 0 0821010b0300060400010801\n".as_slice()
+    );
     Ok(())
 }

@@ -46,12 +46,12 @@ pub listed : (b known kept : State) (all one two : List ChanId) (calls offs whol
     last ≡ calls → whole ≡ offs ++ last → whole ≡ opening_events b
 listed b known kept all one two calls offs whole first second last copied same channels_are one_is two_is first_none calls_are second_none offs_are last_is whole_is =
     let got : calls ≡ flat_map (events_at b) (channels b.site) =
-        calls_are ∙ ap (λ es. es ++ flat_map (events_at known) one) first_none ∙ ap (λ k. flat_map (events_at k) one) copied
-        ∙ ap (flat_map (events_at b)) (one_is ∙ channels_are)
+    calls_are ∙ ap (λ es. es ++ flat_map (events_at known) one) first_none ∙ ap (λ k. flat_map (events_at k) one) copied
+    ∙ ap (flat_map (events_at b)) (one_is ∙ channels_are)
     in
     let off : offs ≡ flat_map (λ x. off_events x (state_of b x)) (channels b.site) =
-        offs_are ∙ ap (λ es. es ++ flat_map (λ x. off_events x (state_of kept x)) two) second_none
-        ∙ ap (λ k. flat_map (λ x. off_events x (state_of k x)) two) (same ∙ copied)
-        ∙ ap (flat_map (λ x. off_events x (state_of b x))) (two_is ∙ channels_are)
+    offs_are ∙ ap (λ es. es ++ flat_map (λ x. off_events x (state_of kept x)) two) second_none
+    ∙ ap (λ k. flat_map (λ x. off_events x (state_of k x)) two) (same ∙ copied)
+    ∙ ap (flat_map (λ x. off_events x (state_of b x))) (two_is ∙ channels_are)
     in
     whole_is ∙ ap (λ es. es ++ last) off ∙ ap (λ es. flat_map (λ x. off_events x (state_of b x)) (channels b.site) ++ es) (last_is ∙ got)

@@ -122,10 +122,33 @@ fn see(seen: &mut Seen, events: &[Event]) {
     }
 }
 
-const SERVING: ChanId = ChanId { cell: 0, trx: 0, tn: 2, sub: Sub::Full };
-const TARGET: ChanId = ChanId { cell: 1, trx: 0, tn: 3, sub: Sub::Full };
-const COMES_TO: ChanId = ChanId { cell: 1, trx: 0, tn: 3, sub: Sub::Half0 };
-const HELD: ChanId = ChanId { cell: 0, trx: 0, tn: 3, sub: Sub::Half1 };
+const SERVING: ChanId = ChanId {
+    cell: 0,
+    trx: 0,
+    tn: 2,
+    sub: Sub::Full,
+};
+
+const TARGET: ChanId = ChanId {
+    cell: 1,
+    trx: 0,
+    tn: 3,
+    sub: Sub::Full,
+};
+
+const COMES_TO: ChanId = ChanId {
+    cell: 1,
+    trx: 0,
+    tn: 3,
+    sub: Sub::Half0,
+};
+
+const HELD: ChanId = ChanId {
+    cell: 0,
+    trx: 0,
+    tn: 3,
+    sub: Sub::Half1,
+};
 
 /// A call goes through all stages of a handover within the controller, and is taken back; one comes from another controller
 /// and is refused its channel, one is refused the channel on which it begins; the first is ordered to leave.

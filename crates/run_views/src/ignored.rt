@@ -57,9 +57,8 @@ fn changed_nothing(step: Step) -> bool {
 /// Whether the book replied that a channel serves its call and is on.
 fn serves<A: Allocator>(step: Step, content: &Content<A>) -> bool {
     match (step, content) {
-        (Step::Asked(_, Reply::Record(record, Some(ChanState::On(_)))), Content::Abis(place, _)) => {
-            place.chan.is_some() && record.serving == place.chan
-        }
+        (Step::Asked(_, Reply::Record(record, Some(ChanState::On(_)))), Content::Abis(place, _)) =>
+            { place.chan.is_some() && record.serving == place.chan }
         _ => false,
     }
 }

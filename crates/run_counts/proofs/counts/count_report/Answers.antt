@@ -35,5 +35,5 @@ pub returns-in_err-push-in-None-clause-memory : goal.returns-in_err-push-in-None
 returns-in_err-push-in-None-clause-memory g c =
     let rows = c.args.rows.now.items in
     let none : position (λ (r : Row). said.is_report c.args.report r.report) rows ≡ None =
-            ap (λ rs. position (λ (r : Row). said.is_report c.args.report r.report) rs) (sym c.deref.ensures.value) ∙ sym c.place_of.ensures ∙ c.in-None.is in
+    ap (λ rs. position (λ (r : Row). said.is_report c.args.report r.report) rs) (sym c.deref.ensures.value) ∙ sym c.place_of.ensures ∙ c.in-None.is in
     on_error c.from_residual.result (uncounted (said.is_report c.args.report) rows none)

@@ -10,7 +10,7 @@ returns-in_ok-push-in-None-clause-place g c =
     let texts = c.args.self.now.texts.items in
     let text = c.in_ok-from_str-in-None.field-0 in
     let none : said.place_in texts name ≡ None =
-            ap (λ ts. said.place_in ts name) (sym c.deref.ensures.value) ∙ sym c.place_of.ensures ∙ c.in-None.is in
+    ap (λ ts. said.place_in ts name) (sym c.deref.ensures.value) ∙ sym c.place_of.ensures ∙ c.in-None.is in
     let now : c.push.new.self.items ≡ texts ++ text ∷ [] = pushed (text ∷ []) refl c.in_ok-push-in-None.was c.push.ensures.items in
     let met : said.is_name name (string_bytes text) ≡ true = same_text name (string_bytes text) c.in_ok-from_str-in-None.ensures.ok in
     let last : c.len-place.result ≡ length texts = c.len-place.ensures ∙ sym c.deref.ensures.len ∙ ap length c.deref.ensures.value in
