@@ -105,16 +105,12 @@ fn is_there<A: Allocator + Copy>(sites: &Sites<A>, side: Side, chan: ChanId) -> 
     }
 }
 
-/// The turns from the next line of the script on that gives an input.
-fn turns_behind<A: Allocator>(turns: &[Turn<A>], inputs: usize) -> &[Turn<A>] {
-    let mut count = 0_usize;
+/// The turns from the first on that a line of the script gave.
+fn from_script<A: Allocator>(turns: &[Turn<A>]) -> &[Turn<A>] {
     let mut rest = turns;
     while let [turn, behind @ ..] = rest {
         if turn.source == Source::Script {
-            if count == inputs {
-                return rest;
-            }
-            count = count.saturating_add(1);
+            return rest;
         }
         rest = behind;
     }
@@ -143,9 +139,8 @@ fn is_unclear(behind: &[Line]) -> bool {
 struct Search<'a, A: Allocator + Copy> {
     alloc: A,
     sites: &'a Sites<A>,
+    /// The turns from the next line on that gives an input.
     turns: &'a [Turn<A>],
-    /// How many lines gave an input.
-    inputs: usize,
     idle: Vec<Idle, A>,
 }
 
@@ -160,9 +155,8 @@ impl<A: Allocator + Copy> Search<'_, A> {
     ) -> Result<(), AllocError> {
         let chan = chan_of(setting);
         let is_there = is_there(self.sites, side, chan);
-        let turns = turns_behind(self.turns, self.inputs);
         if is_there
-            && (is_unclear(behind) || is_used(self.alloc, turns, side, chan, setting.act)?)
+            && (is_unclear(behind) || is_used(self.alloc, self.turns, side, chan, setting.act)?)
         {
             return Ok(());
         }
@@ -174,12 +168,19 @@ impl<A: Allocator + Copy> Search<'_, A> {
         Ok(())
     }
 
+    /// A line that gives an input is passed.
+    fn pass_input(&mut self) {
+        if let [_, behind @ ..] = self.turns {
+            self.turns = from_script(behind);
+        }
+    }
+
     /// Looks at lines.
     fn look_at_all(&mut self, lines: &[Line]) -> Result<(), AllocError> {
         let mut rest = lines;
         while let [line, behind @ ..] = rest {
             match line.kind {
-                Kind::Input => self.inputs = self.inputs.saturating_add(1),
+                Kind::Input => self.pass_input(),
                 Kind::Setting(side, setting) => {
                     self.look_at(line.number, side, setting, behind)?;
                 }
@@ -223,8 +224,7 @@ pub fn idle_settings<A: Allocator + Copy>(
     let mut search = Search {
         alloc,
         sites,
-        turns: &run.turns,
-        inputs: 0,
+        turns: from_script(&run.turns),
         idle: Vec::new(alloc),
     };
     search.look_at_all(&lines)?;
