@@ -1,10 +1,12 @@
 -- What a listener was told that compares it with a script, part by part.
-use Rattle.std.proofs.Common.{◌≡◌, ◌↔◌, ℕ, Bool, true, false, List, [], ◌∷◌, length, refl, sym, ◌∙◌, ap, subst, Bor, suc, rules}
+use Rattle.std.proofs.Common.{◌≡◌, ◌↔◌, ◌⊎◌, ℕ, Bool, true, false, List, [], ◌∷◌, length, refl, sym, ◌∙◌, ap, subst, Bor, suc, rules, Option, None, Result, Ok, Err, OnOk}
 use Rattle.tested_scripts.specs.Lines.{texts_of}
 use Rattle.lab_script.specs.Script.{lines_of}
 use Rattle.tested_scripts.specs.declared.heard.Came.{Came}
 use Rattle.tested_scripts.specs.Heard.{Hears, HasHeard, IsTold}
-use Rattle.tested_scripts.specs.Tests.{part_at, next_place, IsPartMet, IsLastMet, AllMet, Heard, WasMet, IsMet, IsMissed}
+use Rattle.tested_scripts.specs.declared.compare.Difference.{Difference}
+use Rattle.tested_scripts.specs.Meeting.{Said, AreMet}
+use Rattle.tested_scripts.specs.Tests.{came_in, part_at, next_place, AreKept, IsPartMet, IsLastMet, AllMet, Heard, WasMet, IsMet, IsMissed}
 
 -- It keeps the lines of a script, a place among them, and whether all was met so far. Told what came, it goes on to the next
 -- part, and all is met just where it was before and the part is; told what came last it answers whether all is.
@@ -72,3 +74,51 @@ pub told_missed : {L : Type 0} {hears : L → Came → L → Type 0} {hears_end 
 told_missed {L} {hears} {hears_end} {l} {count} {well} told no_well lines place met compares script same start so_far =
     let found = whole hears hears_end lines place met compares script l count well told same start so_far in
     (found.0, λ was. let bad : false ≡ true = sym no_well ∙ found.1.1 was in absurd (search (rules, bad)))
+
+-- Of a part three things are looked at, one after another: all is met then just where it was before and each is.
+pub part_met : {T E : Type 0} (r : Result T E) (part : List (List ℕ)) (came : Came) (one two : List Said) (d : Option Difference) (holds m0 m1 m2 m3 : Bool)
+    → one ≡ came_in came → two ≡ came_in came → ((d ≡ None) ↔ AreMet part one)
+    → ((m1 ≡ true) ↔ ((m0 ≡ true) × (d ≡ None))) → ((m2 ≡ true) ↔ ((m1 ≡ true) × AreKept part two)) → OnOk r ((m3 ≡ true) ↔ ((m2 ≡ true) × (holds ≡ true)))
+    → OnOk r ((h : Bool) × ((m3 ≡ true) ↔ ((m0 ≡ true) × IsPartMet part came h)))
+part_met (Ok x) part came one two d holds m0 m1 m2 m3 is_one is_two met first second third = (
+  holds,
+  (
+    λ yes.
+        let c = third.0 yes in
+        let b = second.0 c.0 in
+        let a = first.0 b.0 in (
+          a.0,
+          (subst (λ (s : List Said). AreMet part s) is_one (met.0 a.1), subst (λ (s : List Said). AreKept part s) is_two b.1, c.1),
+        ),
+    λ h.
+        let a : d ≡ None = met.1 (subst (λ (s : List Said). AreMet part s) (sym is_one) h.1.0) in
+        let b : AreKept part two = subst (λ (s : List Said). AreKept part s) (sym is_two) h.1.1 in
+        third.1 (second.1 (first.1 (h.0, a), b), h.1.2),
+  ),
+)
+part_met (Err x) part came one two d holds m0 m1 m2 m3 is_one is_two met first second third = tt
+
+-- the same of the last part, with the trace's end or without it
+pub last_met : {T E : Type 0} (r : Result T E) (part : List (List ℕ)) (came ended : Came) (one last two : List Said) (d : Option Difference) (holds m0 m1 m2 m3 : Bool)
+    → one ≡ came_in came → last ≡ came_in ended → two ≡ came_in came → ((d ≡ None) ↔ (AreMet part one ⊎ AreMet part last))
+    → ((m1 ≡ true) ↔ ((m0 ≡ true) × (d ≡ None))) → ((m2 ≡ true) ↔ ((m1 ≡ true) × AreKept part two)) → OnOk r ((m3 ≡ true) ↔ ((m2 ≡ true) × (holds ≡ true)))
+    → OnOk r ((h : Bool) × ((m3 ≡ true) ↔ ((m0 ≡ true) × IsLastMet part came ended h)))
+last_met (Ok x) part came ended one last two d holds m0 m1 m2 m3 is_one is_last is_two met first second third = (
+  holds,
+  (
+    λ yes.
+        let c = third.0 yes in
+        let b = second.0 c.0 in
+        let a = first.0 b.0 in
+        let either : AreMet part (came_in came) ⊎ AreMet part last = subst (λ (s : List Said). AreMet part s ⊎ AreMet part last) is_one (met.0 a.1) in (
+          a.0,
+          (subst (λ (s : List Said). AreMet part (came_in came) ⊎ AreMet part s) is_last either, subst (λ (s : List Said). AreKept part s) is_two b.1, c.1),
+        ),
+    λ h.
+        let either : AreMet part (came_in came) ⊎ AreMet part last = subst (λ (s : List Said). AreMet part (came_in came) ⊎ AreMet part s) (sym is_last) h.1.0 in
+        let a : d ≡ None = met.1 (subst (λ (s : List Said). AreMet part s ⊎ AreMet part last) (sym is_one) either) in
+        let b : AreKept part two = subst (λ (s : List Said). AreKept part s) (sym is_two) h.1.1 in
+        third.1 (second.1 (first.1 (h.0, a), b), h.1.2),
+  ),
+)
+last_met (Err x) part came ended one last two d holds m0 m1 m2 m3 is_one is_last is_two met first second third = tt

@@ -65,6 +65,15 @@ fn part_at<'a>(lines: &'a [&'a str], place: usize) -> &'a [&'a str]
     part
 }
 
+/// The place behind the line that ends the part which begins at a place, as far as it can be told.
+fn next_place(lines: &[&str], place: usize) -> usize
+    ensures { result ≡ said.next_place (expected.texts_of lines.now) place }
+{
+    let part = part_at(lines, place);
+    let behind = part.len().saturating_add(1);
+    place.saturating_add(behind)
+}
+
 /// Whether the last that lines expect is any lines.
 fn is_any_before(lines: &[&str]) -> bool {
     match lines.iter().rev().find_map(|line| expected_in(*line)) {
@@ -130,10 +139,11 @@ impl<W: Write, A: Allocator + Copy> Tester<'_, W, A> {
         ensures place { self.new.place ≡ self.old.place }
         ensures missed { OnOk result (self.new.is_met ≡ false) }
     {
-        if self.is_met {
-            self.is_met = false;
-            print_not_met(self.out, self.test.number, self.test.name)?;
+        if !self.is_met {
+            return Ok(());
         }
+        self.is_met = false;
+        print_not_met(self.out, self.test.number, self.test.name)?;
         Ok(())
     }
 
@@ -148,13 +158,12 @@ impl<W: Write, A: Allocator + Copy> Tester<'_, W, A> {
         ensures place { self.new.place ≡ self.old.place }
         ensures met { OnOk result ((self.new.is_met ≡ true) ↔ ((self.old.is_met ≡ true) × (difference ≡ None))) }
     {
-        match difference {
-            Some(difference) => {
-                self.miss()?;
-                print_difference(self.out, self.place, part, came, difference)
-            }
-            None => Ok(()),
-        }
+        let Some(difference) = difference else {
+            return Ok(());
+        };
+        self.miss()?;
+        print_difference(self.out, self.place, part, came, difference)?;
+        Ok(())
     }
 
     /// Prints which lines of a part say that no line begins so as one that came does.
@@ -164,24 +173,25 @@ impl<W: Write, A: Allocator + Copy> Tester<'_, W, A> {
         ensures met { OnOk result ((self.new.is_met ≡ true) ↔ ((self.old.is_met ≡ true)
             × said.AreKept (expected.texts_of part.now) (said_of came.now))) }
     {
-        if has_broken(part, came) {
-            self.miss()?;
-            print_broken(self.out, self.place, part, came)?;
+        if !has_broken(part, came) {
+            return Ok(());
         }
+        self.miss()?;
+        print_broken(self.out, self.place, part, came)?;
         Ok(())
     }
 
-    /// Prints which lines of a part expect something else of the books than they hold.
-    fn look_at_held(&mut self, part: &[&str], held: &str) -> Result<(), LabFault>
+    /// Prints which lines of a part expect something else of the books than they hold, where some do.
+    fn look_at_held(&mut self, part: &[&str], held: &str, holds: bool) -> Result<(), LabFault>
         ensures lines { self.new.lines.now ≡ self.old.lines.now }
         ensures place { self.new.place ≡ self.old.place }
-        ensures met { OnOk result ((holds : Bool) ×
-            ((self.new.is_met ≡ true) ↔ ((self.old.is_met ≡ true) × (holds ≡ true)))) }
+        ensures met { OnOk result ((self.new.is_met ≡ true) ↔ ((self.old.is_met ≡ true) × (holds ≡ true))) }
     {
-        if !holds_all(self.alloc, part, held)? {
-            self.miss()?;
-            print_all_unheld(self.alloc, self.out, self.place, part, held)?;
+        if holds {
+            return Ok(());
         }
+        self.miss()?;
+        print_all_unheld(self.alloc, self.out, self.place, part, held)?;
         Ok(())
     }
 
@@ -194,10 +204,11 @@ impl<W: Write, A: Allocator + Copy> Tester<'_, W, A> {
             × said.IsPartMet (expected.texts_of part.now) came.entry holds))) }
     {
         let lines = came_lines(self.alloc, came.trace, came.words)?;
+        let holds = holds_all(self.alloc, part, came.held)?;
         let difference = find_difference(self.alloc, part, &lines)?;
         self.look_at_difference(part, &lines, difference)?;
         self.look_at_refused(part, &lines)?;
-        self.look_at_held(part, came.held)
+        self.look_at_held(part, came.held, holds)
     }
 
     /// The same of the last part, with the trace's end or without it.
@@ -213,10 +224,19 @@ impl<W: Write, A: Allocator + Copy> Tester<'_, W, A> {
     {
         let lines = came_lines(self.alloc, came.trace, came.words)?;
         let all = came_lines(self.alloc, ended.trace, ended.words)?;
+        let holds = holds_all(self.alloc, part, came.held)?;
         let difference = find_last_difference(self.alloc, part, &lines, &all)?;
         self.look_at_difference(part, &all, difference)?;
         self.look_at_refused(part, &lines)?;
-        self.look_at_held(part, came.held)
+        self.look_at_held(part, came.held, holds)
+    }
+
+    /// Prints that all is met, where it is.
+    fn print_end(&mut self) -> Result<(), LabFault> {
+        if self.is_met {
+            print_met(self.out, self.test.number, self.test.name)?;
+        }
+        Ok(())
     }
 }
 
@@ -236,19 +256,18 @@ impl<W: Write, A: Allocator + Copy> PartListener for Tester<'_, W, A> {
 
     fn hear(&mut self, came: Came<'_>) -> Result<(), LabFault> {
         let part = part_at(self.lines, self.place);
-        let behind = part.len().saturating_add(1);
+        let next = next_place(self.lines, self.place);
         self.look_at(part, came)?;
-        self.place = self.place.saturating_add(behind);
+        self.place = next;
         Ok(())
     }
 
     fn hear_last(&mut self, came: Came<'_>, ended: Came<'_>) -> Result<bool, LabFault> {
         let part = part_at(self.lines, self.place);
         self.look_at_last(part, came, ended)?;
-        if self.is_met {
-            print_met(self.out, self.test.number, self.test.name)?;
-        }
-        Ok(self.is_met)
+        let is_met = self.is_met;
+        self.print_end()?;
+        Ok(is_met)
     }
 }
 
