@@ -1,4 +1,0 @@
-pub mod Checksum
-pub mod Numerals
-pub mod Records
-pub mod Files
