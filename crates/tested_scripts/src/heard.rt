@@ -86,7 +86,8 @@ fn follow_heard<A: Allocator + Copy, L: PartListener>(
     hold_wanted(course, gathered, listener)?;
     listener.hear(gathered.came())?;
     gathered.clear();
-    follow_gathered(course, item, gathered)
+    follow_gathered(course, item, gathered)?;
+    Ok(())
 }
 
 /// Does what the lines of a script give, in their order, and tells a listener what comes of each but the last.

@@ -128,7 +128,8 @@ impl<W: Write, A: Allocator + Copy> PartListener for Recorder<'_, W, A> {
     }
 
     fn hear(&mut self, came: Came<'_>) -> Result<(), LabFault> {
-        self.print_came(came)
+        self.print_came(came)?;
+        Ok(())
     }
 
     fn hear_last(&mut self, _came: Came<'_>, ended: Came<'_>) -> Result<bool, LabFault> {
