@@ -35,7 +35,8 @@ def operators(start, room, _program):
     must(counted[0].split() == ["summary", "all", "1", "calls", "opened"], f"no summary: {counted}")
     must(all(line.startswith("summary ") for line in counted), f"more than a summary: {counted}")
     must(ask("summary\nlook\n").count("calls opened") == 2, "an answer is lost behind a summary")
-    must(re.match("line 3\nrefused: nonsense: .*found nonsense$", ask("nonsense\n")), "no answer to what can't be read")
+    # the controller's lines were: open, the station's answer, summary twice, look
+    must(re.match("line 6\nrefused: nonsense: .*found nonsense$", ask("nonsense\n")), "no answer to what can't be read")
     must((room / "control").stat().st_mode & 0o077 == 0, "others may write to the socket")
     # the end of standard input isn't the bridge's here
     bridge.process.stdin.close()

@@ -295,12 +295,9 @@ fn list_sides<A: Allocator + Copy, W: Write>(
     out: &mut W,
 ) -> Result<Status, LabFault> {
     let Sites { first, peer } = sites;
-    if !is_of_two(texts.trace) {
-        return list_one(alloc, first, texts.first(texts.trace), out);
-    }
     match peer {
-        Some(peer) => list_two(alloc, first, peer, texts, out),
-        None => list_one(alloc, first, texts.first(texts.trace), out),
+        Some(peer) if is_of_two(texts.trace) => list_two(alloc, first, peer, texts, out),
+        Some(_) | None => list_one(alloc, first, texts.first(texts.trace), out),
     }
 }
 

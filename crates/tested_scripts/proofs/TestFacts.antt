@@ -44,7 +44,7 @@ answered hears hears_end lines place met compares all l (one ∷ told) m came en
       each = ap suc rest.each;
       held = rest.held;
       is = (
-        λ yes. let after = more.0 yes in let before = part.0 after.0 in (before.0, (before.1, after.1)),
+        λ was_well. let after = more.0 was_well in let before = part.0 after.0 in (before.0, (before.1, after.1)),
         λ h. more.1 (part.1 (h.0, h.1.0), h.1.1),
       );
     }
@@ -56,16 +56,16 @@ whole {L} hears hears_end lines place met compares script l count well told same
     let found = answered hears hears_end lines place met compares (lines_of script) l told.before.all told.last told.came told.ended well same told.before.heard told.end in
     let from_start = subst (λ p. (well ≡ true) ↔ ((met l ≡ true) × AllMet (lines_of script) p found.parts told.came told.ended found.held)) start found.is in (
       record { parts = found.parts; each = found.each ∙ told.before.each; came = told.came; ended = told.ended; held = found.held },
-      (λ yes. (from_start.0 yes).1, λ h. from_start.1 (so_far, h)),
+      (λ was_well. (from_start.0 was_well).1, λ h. from_start.1 (so_far, h)),
     )
 
 -- all was met where it was well
 pub told_met : {L : Type 0} {hears : L → Came → L → Type 0} {hears_end : L → Came → Came → Bool → Type 0} {l : L} {count : ℕ} {well : Bool}
     → IsTold hears hears_end l count well → well ≡ true → (lines : L → List (Bor (List ℕ))) (place : L → ℕ) (met : L → Bool) → Compares hears hears_end lines place met
     → (script : List ℕ) → texts_of (lines l) ≡ lines_of script → place l ≡ 0 → met l ≡ true → IsMet script count
-told_met {L} {hears} {hears_end} {l} {count} {well} told yes lines place met compares script same start so_far =
+told_met {L} {hears} {hears_end} {l} {count} {well} told was_well lines place met compares script same start so_far =
     let found = whole hears hears_end lines place met compares script l count well told same start so_far in
-    (found.0, found.1.0 yes)
+    (found.0, found.1.0 was_well)
 
 -- and where it wasn't, something wasn't
 pub told_missed : {L : Type 0} {hears : L → Came → L → Type 0} {hears_end : L → Came → Came → Bool → Type 0} {l : L} {count : ℕ} {well : Bool}
@@ -83,8 +83,8 @@ pub part_met : {T E : Type 0} (r : Result T E) (part : List (List ℕ)) (came : 
 part_met (Ok x) part came one two d holds m0 m1 m2 m3 is_one is_two met first second third = (
   holds,
   (
-    λ yes.
-        let c = third.0 yes in
+    λ was_well.
+        let c = third.0 was_well in
         let b = second.0 c.0 in
         let a = first.0 b.0 in (
           a.0,
@@ -106,8 +106,8 @@ pub last_met : {T E : Type 0} (r : Result T E) (part : List (List ℕ)) (came en
 last_met (Ok x) part came ended one last two d holds m0 m1 m2 m3 is_one is_last is_two met first second third = (
   holds,
   (
-    λ yes.
-        let c = third.0 yes in
+    λ was_well.
+        let c = third.0 was_well in
         let b = second.0 c.0 in
         let a = first.0 b.0 in
         let either : AreMet part (came_in came) ⊎ AreMet part last = subst (λ (s : List Said). AreMet part s ⊎ AreMet part last) is_one (met.0 a.1) in (

@@ -1,6 +1,6 @@
 //! Which lines of a part of a script aren't met, beside those that expect lines one by one.
-ghost use Rattle.std.specs.Prelude.{◌≡◌};
-ghost use Rattle.std.specs.List.{list_any};
+ghost use Rattle.std.specs.Prelude.{◌≡◌, nat_eq};
+ghost use Rattle.std.specs.List.{list_any, starts_with};
 ghost use Rattle.tested_scripts.specs.Lines.{texts_of};
 ghost use Rattle.tested_scripts.specs.Meeting.{said_of};
 ghost use Rattle.tested_scripts.specs.Meeting as said;
@@ -14,11 +14,18 @@ use lab_runs::run::LabFault;
 use std::alloc::Allocator;
 use std::io::Write;
 
+/// Whether a text begins with another.
+fn begins(text: &str, start: &str) -> bool
+    ensures { result ≡ starts_with nat_eq text.now start.now }
+{
+    text.starts_with(start)
+}
+
 /// Whether a line that came begins with a text, by itself or in words.
 fn begins_with(line: &CameLine<'_>, text: &str) -> bool
     ensures { result ≡ said.begins_with text.now (line.now.text.now, line.now.words.now) }
 {
-    line.text.starts_with(text) || line.words.starts_with(text)
+    begins(line.text, text) || begins(line.words, text)
 }
 
 /// Whether one of the lines that came begins with a text.

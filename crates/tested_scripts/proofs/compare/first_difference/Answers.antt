@@ -3,7 +3,7 @@ use Rattle.std.specs.List.{Contains}
 use Rattle.std.proofs.lemmas.List.{length-map}
 use Rattle.tested_scripts.specs.Lines.{texts_of, expected_in}
 use Rattle.tested_scripts.specs.declared.compare.CameLine.{CameLine}
-use Rattle.tested_scripts.specs.Meeting.{Reaches, AreNext, said_of, first_place}
+use Rattle.tested_scripts.specs.Meeting.{Said, Reaches, AreNext, said_of, first_place}
 use Rattle.tested_scripts.proofs.MeetingLemmas.{next_led, lost, lost_all, led_all, none_further}
 use Rattle.tested_scripts.proofs.compare.first_difference.Goals as goal
 
@@ -51,7 +51,7 @@ returns-then-has_place-clause-met g c =
     let came = said_of c.args.came.now in
     let lines = texts_of c.args.lines.now in
     let start = first_place lines came in
-    let count = length-map c.args.came.now (λ (line : CameLine). (line.text.now, line.words.now)) in
+    let count = length-map {B = Said} c.args.came.now (λ (line : CameLine). (line.text.now, line.words.now)) in
     let whole : length lines ≤ c.loop-line.line = omega (arith, length-map c.args.lines.now (λ (x : Bor (List ℕ)). x.now)) in
     let all = led_all came lines start c.loop-line.line c.loop-line.places.items whole c.loop-line.invariant.led in
     let one = subst (λ (ps : List ℕ). Contains ps (length c.args.came.now)) c.deref-2.ensures.value (c.has_place.ensures.has c.if-has_place.true) in
@@ -62,7 +62,7 @@ returns-clause-met g c =
     let came = said_of c.args.came.now in
     let lines = texts_of c.args.lines.now in
     let start = first_place lines came in
-    let count = length-map c.args.came.now (λ (line : CameLine). (line.text.now, line.words.now)) in
+    let count = length-map {B = Said} c.args.came.now (λ (line : CameLine). (line.text.now, line.words.now)) in
     let whole : length lines ≤ c.loop-line.line = omega (arith, length-map c.args.lines.now (λ (x : Bor (List ℕ)). x.now)) in
     let all = led_all came lines start c.loop-line.line c.loop-line.places.items whole c.loop-line.invariant.led in (
       λ e. absurd (search (rules, e)),

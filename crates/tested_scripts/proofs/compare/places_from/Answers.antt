@@ -2,13 +2,13 @@ use Rattle.std.proofs.Common.{◌+◌, ◌<◌, ◌≤◌, ◌↔◌, ℕ, List,
 use Rattle.std.specs.List.{Contains}
 use Rattle.std.proofs.lemmas.List.{length-map}
 use Rattle.tested_scripts.specs.declared.compare.CameLine.{CameLine}
-use Rattle.tested_scripts.specs.Meeting.{said_of}
+use Rattle.tested_scripts.specs.Meeting.{Said, said_of}
 use Rattle.tested_scripts.proofs.MeetingLemmas.{range_more, range_all, range_none}
 use Rattle.tested_scripts.proofs.compare.places_from.Goals as goal
 
 pub loop-place-init : goal.loop-place-init
 loop-place-init g c =
-    let count = length-map c.args.came.now (λ (line : CameLine). (line.text.now, line.words.now)) in
+    let count = length-map {B = Said} c.args.came.now (λ (line : CameLine). (line.text.now, line.words.now)) in
     let start = min c.args.first (length (said_of c.args.came.now) + 1) in
     let first = c.min-place.result in
     let low : start ≤ first = omega (arith, count, c.min-place.ensures) in
@@ -29,7 +29,7 @@ loop-place-preserved g c =
 
 pub returns : goal.returns
 returns g c =
-    let count = length-map c.args.came.now (λ (line : CameLine). (line.text.now, line.words.now)) in
+    let count = length-map {B = Said} c.args.came.now (λ (line : CameLine). (line.text.now, line.words.now)) in
     let total = length (said_of c.args.came.now) in
     let start = min c.args.first (total + 1) in
     let place = c.loop-place.place in
