@@ -77,7 +77,9 @@ unit = "6970/0/0"
 cell = 1
 {more}
 """
-# The gateway's timers: on a busy machine it may be slow to answer.
+# Timers of a network that don't run out where they are no matter of a check: on a busy machine the mobile, the centre, the
+# gateway and the check itself may be slow.
+OF_MOBILES, OF_CENTRE = ("t3101", "t3109", "t3113", "t10", "establish"), ("connect", "release", "clearing", "settle", "repeat")
 OF_GATEWAY = ("gateway", "gateway-repeat", "gateway-audit")
 # What is asked for of CONFIG beside timers, and what it is where that isn't asked for; `broadcast` are more lines of that table,
 # and `more` are other tables.
@@ -109,7 +111,7 @@ class Run(Bridge):
         # how many lines there were when the controller had last done all that it was given
         self.done = 0
         self.room = room
-        patient = PATIENT | {name: 120 for name in ("t3101", "connect", "clearing", *OF_GATEWAY)}
+        patient = PATIENT | {name: 120 for name in (*OF_MOBILES, *OF_CENTRE, *OF_GATEWAY)}
         options = patient | {"t3111": 0.1, "t13": 0.1} | options
         keys = {name: options.pop(name, value) for name, value in KEYS.items()}
         lines = "\n".join(f"{name} = {seconds}" for name, seconds in options.items())
@@ -273,11 +275,16 @@ def passed(run, *kinds):
 
 def emptied(run):
     """Waits until no channel is in use."""
-    end = time.monotonic() + LIMIT
-    begin = run.catch_up()
-    run.ask("calls")
-    while "no channel is in use" not in run.out.lines[begin : run.catch_up()]:
-        must(time.monotonic() < end, "channels stay in use")
-        time.sleep(0.2)
-        begin = run.done
-        run.ask("calls")
+    ask_until(run, "calls", "^no channel is in use$")
+
+
+def ask_until(run, question, pattern):
+    """An operator asks again and again, until the answer has a line that a pattern describes."""
+    end, is_answered = time.monotonic() + LIMIT, False
+    while not is_answered:
+        before = run.catch_up()
+        run.ask(question)
+        answer = run.out.lines[before : run.catch_up()]
+        is_answered = any(re.search(pattern, line) for line in answer)
+        must(is_answered or time.monotonic() < end, f"no answer to {question!r} has {pattern!r}, but {answer}")
+        time.sleep(0.0 if is_answered else 0.2)
