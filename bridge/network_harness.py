@@ -103,8 +103,8 @@ TAKEN, MOVE = f"001d121709062b093c09203c0005{SPEAKS}", "062b0a460940460005"
 class Run(Bridge):
     """A network that runs, with its centre and its stations."""
 
-    def __init__(self, program, room, port=None, acknowledges=True, centre=None, site=SITE, path=None, **options):
-        """`path` is where programs are looked for; other options are keys of CONFIG."""
+    def __init__(self, program, room, port=None, acknowledges=True, centre=None, site=SITE, path=None, words=(), **options):
+        """`path` is where programs are looked for, `words` are options of the command line; others are keys of CONFIG."""
         self.centre = centre or TestCentre()
         self.centre.acknowledges = acknowledges
         self.gateway = TestGateway()
@@ -119,7 +119,7 @@ class Run(Bridge):
         ports = {"port": port or self.centre.port, "gateway": self.gateway.port}
         config = CONFIG.format(program=program, timers=lines, **ports, **keys)
         (room / "config.toml").write_text(config)
-        self.run(["env", f"PATH={path or os.environ['PATH']}", FOLDER / "network", room / "config.toml"], room)
+        self.run(["env", f"PATH={path or os.environ['PATH']}", FOLDER / "network", room / "config.toml", *words], room)
 
     def begin(self):
         """Waits for the centre; the first station, once that is there."""
