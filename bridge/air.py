@@ -165,6 +165,8 @@ class Air:
             self.heard_radio(station, call, said, message)
         elif call is None or call.connection is None:
             station.pass_over("DATA INDICATION of no call")
+        elif channel != self.relay.talks.serving(call) and not self.relay.talks.is_moving(call):
+            station.pass_over("DATA INDICATION where nobody was sent")
         elif channel != self.relay.talks.serving(call) or call.up:
             # it goes behind HANDOVER COMPLETE, which the controller has first
             wait(call.up, (said.layer_3, sapi))

@@ -8,6 +8,7 @@ import socket
 import stat
 import subprocess
 
+from figures import FiguresFile
 from links import Links
 from log import Log
 from operators import QUIET, Client, Operator
@@ -28,8 +29,8 @@ class Bridge:
     BIND = "--bind"
 
     def __init__(self, words, make_relay=Relay):
-        """`words` are the settings: `stations`, `seconds`, `bind`, `port`, `log`, `control`, `messages`, and `core`, the
-        controller's command."""
+        """`words` are the settings: `stations`, `seconds`, `bind`, `port`, `log`, `control`, `figures`, `figures_every`,
+        `messages`, and `core`, the controller's command."""
         self.words = words
         self.selector = selectors.PollSelector()
         self.times = Times()
@@ -40,7 +41,7 @@ class Bridge:
         self.clients = set()
         self.operator = None
         self.listeners = []
-        self.control = None
+        self.control = self.figures = None
         self.core = None
         self.is_ending = False
 
@@ -55,6 +56,8 @@ class Bridge:
         if words.control:
             self.listen(control_socket(words.control), self.accept_operator)
             self.control = words.control
+        if words.figures:
+            self.figures = FiguresFile(words.figures, words.figures_every, self.times, self.relay.figures)
         self.watch_signals()
         self.start_core(words.core)
         self.hear_operator()
@@ -297,6 +300,9 @@ def serve(make):
         if bridge and bridge.control:
             with contextlib.suppress(OSError):
                 os.unlink(bridge.control)
+        if bridge and bridge.figures:
+            with contextlib.suppress(OSError):
+                bridge.figures.finish()
     OUTPUT.finish(UNREAD)
     if OUTPUT.left_out:
         say(f"standard output wasn't read: {OUTPUT.left_out} lines are left out")

@@ -84,18 +84,18 @@ class TestCentre:
         elif text.startswith("04") and self.completes:
             self.send("05" + text[8:14] + text[2:8])
 
-    def frame(self, octets):
-        """Sends a frame, in pieces of so many octets where that is asked for."""
+    def frame(self, *frames):
+        """Sends frames at once, in pieces of so many octets where that is asked for."""
         if not self.speaks:
             return
-        octets = (len(octets) - 1).to_bytes(2, "big") + octets
+        octets = b"".join((len(octets) - 1).to_bytes(2, "big") + octets for octets in frames)
         with self.lock:
             for at in range(0, len(octets), self.pieces or len(octets)):
                 self.socket.sendall(octets[at : at + (self.pieces or len(octets))])
 
-    def send(self, text):
-        """Sends octets of SCCP."""
-        self.frame(b"\xfd" + bytes.fromhex(text))
+    def send(self, *texts):
+        """Sends messages of SCCP at once."""
+        self.frame(*(b"\xfd" + bytes.fromhex(text) for text in texts))
 
     def confirm(self, other, own=None):
         """Confirms a connection. Its own reference is the other's, as osmo-msc had it, unless another is asked for."""

@@ -32,7 +32,7 @@ ACKNOWLEDGED = "09000305090242fe04435101fe03000131"
 
 def silent_centre(start, _room, _program):
     """A centre that takes the link and says nothing is left, and tried again; so is one that falls silent, whose calls end."""
-    run = start(patience=SLOW / 2)
+    run = start(patience=SLOW)
     station = run.begin()
     number, connection = register(run, station)
     run.centre.speaks = False
@@ -146,6 +146,7 @@ def numbers_of_any_length(start, _room, _program):
     for line in ("open {} 0 0 1", "seize {} 0 full", "a {} 000121", "watch {}"):
         run.ask(line.format("9" * 6000))
     run.ask("clear 0001")
+    run.catch_up()
     burst(station, "050a0d")
     run.expect("^in seize 2 0 full$")
     burst(station, "060a0d")

@@ -7,7 +7,7 @@ import time
 from centre import RESET
 from check_network import changed
 from harness import SLOW, must
-from network_harness import clear, down, leave, up
+from network_harness import ask_until, clear, down, leave, up
 from speech_harness import (
     ASSIGN,
     ask_for_speech,
@@ -173,7 +173,7 @@ def makes_two(start, _room, _program):
 def other_answers(start, _room, _program):
     """Answers about what wasn't asked, those that are none, and some in one datagram: they are counted, and disturb nothing. A
     provisional answer is waited for."""
-    run = start(gateway=20, **{"gateway-repeat": 2})
+    run = start(gateway=5 * SLOW, **{"gateway-repeat": SLOW})
     station = run.begin()
     call = start_call(run, station)
     odd = [b"", b"\xff\xfe\x00", b"200", b"200 x OK", b"RSIP 9 *@mgw MGCP 1.0\r\n", b"200 99999999999 OK", b"." * 4000, b"."]
@@ -194,7 +194,7 @@ def other_answers(start, _room, _program):
     asked = len(run.gateway.came)
     clear(run, station, call.number, call.connection)
     run.gateway.expect(r"DLCX .*")
-    time.sleep(3)
+    time.sleep(SLOW + 1)
     must(len(run.gateway.came) == asked + 1, "what is under way is asked again")
     run.gateway.send(f"250 {numbers(run)[-1]} OK\r\n")
     run.gateway.emptied()
@@ -243,12 +243,12 @@ def not_deleted(start, _room, _program):
 def begins_anew(start, _room, _program):
     """A gateway is silent for a while, and answers again: a call that speaks goes on. It begins anew, and knows none of its
     endpoints: that is noticed, and the centre is asked to clear the call, once."""
-    run = start(gateway=1, **{"gateway-repeat": 0.3, "gateway-audit": 1})
+    run = start(gateway=SLOW, **{"gateway-repeat": 0.3, "gateway-audit": 1})
     station = run.begin()
     call = start_call(run, station)
     speak(call)
     run.gateway.unanswered = {"MDCX"}
-    run.said.expect("doesn't answer in 1 seconds")
+    run.said.expect(f"doesn't answer in {SLOW} seconds")
     run.gateway.unanswered = set()
     run.said.expect("answers again")
     run.gateway.expect(r"MDCX \d+ rtpbridge/1@mgw MGCP 1\.0\r\nC: [0-9a-f]+\r\nI: C0FFEE02\r\n")
@@ -303,7 +303,7 @@ def kept_back(text, kept, is_first):
 def random_speech(start, _room, _program):
     """What the gateway answers, what a station says of speech, and what the centre asks for, with octets that are changed, left out
     and put in at random: whatever they do, RESET ends it, nothing is left, and a call speaks."""
-    run = start(answer=1, gateway=1, t10=1, **{"gateway-repeat": 0.3})
+    run = start(answer=SLOW, gateway=SLOW, t10=SLOW, **{"gateway-repeat": 0.3})
     station = run.begin()
     call = start_call(run, station)
     chance = random.Random(73)
@@ -324,7 +324,7 @@ def random_speech(start, _room, _program):
     run.centre.send(RESET)
     run.centre.expect("09000305090242fe04435101fe03000131")
     leave(run, station, call.number, 1)
-    time.sleep(2)
+    ask_until(run, "network", "^speech: 0 endpoints; .* transactions: 0 open, ")
     # those of which the gateway's answer couldn't be read are left there
     run.gateway.endpoints.clear()
     call = start_call(run, station, reference="e10ad1")

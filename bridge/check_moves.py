@@ -3,7 +3,7 @@ what becomes of those for which there is none."""
 import time
 
 from centre import RESET
-from harness import LIMIT, must
+from harness import LIMIT, SLOW, must
 from network_harness import CLEAR, CLEARED, MOVE, REQUEST, SECOND, TAKEN, clear, leave, said, say, sent, up
 from speech_harness import (
     ASSIGN,
@@ -99,7 +99,7 @@ def speech_moves(start, _room, _program):
 def speech_comes_back(start, _room, _program):
     """A call comes back, before it was heard on its target and behind that, by the mobile, an operator, and T3103: the gateway
     speaks with the old station again."""
-    run, station, other, call = start_speaking(start, t3103=2)
+    run, station, other, call = start_speaking(start, t3103=SLOW)
     for is_detected in (False, True):
         for ends in ("mobile", "operator", "timer"):
             begin_moving(run, station, other, call)
@@ -143,7 +143,7 @@ def moves_and_moves(start, _room, _program):
 
 def target_without_speech(start, _room, _program):
     """The target's station refuses speech, or says nothing of it: the handover is undone, and the mobile isn't sent away."""
-    run, station, other, call = start_speaking(start, answer=2)
+    run, station, other, call = start_speaking(start, answer=SLOW)
     for unanswered, answer in ((0x70, "7e7201091a012f"), (0x70, None), (0x73, "7e750109f800001a012f"), (0x73, None)):
         other.unanswered = {unanswered}
         run.ask("handover 1 1")
@@ -191,7 +191,7 @@ def undone_before_it_is_sent(start, _room, _program):
 
 def gateway_lost_while_it_moves(start, _room, _program):
     """The gateway doesn't answer where speech is to move: the centre is asked to clear the call."""
-    run, station, other, call = start_speaking(start, gateway=2, **{"gateway-repeat": 0.3})
+    run, station, other, call = start_speaking(start, gateway=SLOW, **{"gateway-repeat": 0.3})
     begin_moving(run, station, other, call)
     run.gateway.unanswered = {"MDCX"}
     say(other, "08270109")
@@ -264,13 +264,13 @@ def assigned_behind_an_attempt(start, _room, _program):
 def moves_while_it_is_assigned(start, _room, _program):
     """A call is handed over before its mobile has taken the mode: what is said of that on the target before it has arrived doesn't
     count. It is told again where it arrives, and speaks there; T10 has ended then."""
-    run = start(t10=3)
+    run = start(t10=SLOW)
     station, other = run.begin(), run.station(SECOND)
     other.ports = 0x5000
     call = start_call(run, station)
     ask_for_speech(call)
     begin_moving(run, station, other, call)
-    time.sleep(3.5)
+    time.sleep(SLOW + 0.5)
     said(other, "09", "061709404601")
     say(other, "08270109")
     said(other, "09", "062c00")
@@ -279,7 +279,7 @@ def moves_while_it_is_assigned(start, _room, _program):
     take_mode(call, description="4046")
     assigned_speech(call)
     call.speaks()
-    time.sleep(3.5)
+    time.sleep(SLOW + 0.5)
     up(run, other, "09", call.connection, "8341")
     must(not any("000403" in it for it in run.centre.came), "the assignment has failed")
     clear(run, other, "09", call.connection)
@@ -290,7 +290,7 @@ def moves_while_it_is_assigned(start, _room, _program):
 def moves_without_speech(start, _room, _program):
     """A call is handed over while the gateway is asked in vain for its speech: once that is given up the mobile is sent away, and
     its call goes on without."""
-    run = start(gateway=2, **{"gateway-repeat": 0.3})
+    run = start(gateway=SLOW, **{"gateway-repeat": 0.3})
     station, other = run.begin(), run.station(SECOND)
     call = start_call(run, station)
     run.gateway.unanswered = {"CRCX"}
@@ -309,7 +309,7 @@ def moves_without_speech(start, _room, _program):
 
 def undone_without_speech(start, _room, _program):
     """The same, but an operator takes the handover back before the gateway is given up: the mobile isn't sent away then."""
-    run = start(gateway=2, **{"gateway-repeat": 0.3})
+    run = start(gateway=SLOW, **{"gateway-repeat": 0.3})
     station, other = run.begin(), run.station(SECOND)
     call = start_call(run, station)
     run.gateway.unanswered = {"CRCX"}
@@ -367,7 +367,7 @@ def comes_with_spare_bits(start, room, program):
 def comes_without_speech(start, _room, _program):
     """A call comes from another controller for which there is no speech: the gateway is silent, or refuses; the station
     refuses; what is asked for isn't to be had: HANDOVER FAILURE, and nothing is left."""
-    run = start(gateway=2, answer=2, **{"gateway-repeat": 0.3})
+    run = start(gateway=SLOW, answer=SLOW, **{"gateway-repeat": 0.3})
     station = run.begin()
     own = {"gateway silent": "20", "gateway refuses": "22", "station refuses": "20"}
     for what, cause in own.items():

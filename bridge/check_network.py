@@ -27,6 +27,7 @@ from network_harness import (
     clear,
     down,
     emptied,
+    freed,
     leave,
     passed,
     register,
@@ -228,7 +229,7 @@ def too_early_on_a_target(start, _room, _program):
     run.ask("handover 1 1")
     sent(other, "08210109.*")
     say(other, "020601090200")
-    time.sleep(0.5)
+    other.settle()
     run.ask("undo 1")
     run.expect("^event undo 1 asked -> record", "^event released 1/0/1 -> done$")
     clear(run, station, number, connection)
@@ -284,9 +285,13 @@ def resets(start, _room, _program):
     run.expect("record 0/0/2 on$")
     run.centre.send(RESET)
     run.centre.expect(f"04{connection}{connection}0.00")
-    leave(run, station, number, 1)
+    for it in (number, "0a"):
+        sent(station, f"030101{it}02000b0003060d01")
+    for it in (number, "0a"):
+        say(station, f"020901{it}0200")
+        sent(station, f"082e01{it}")
+        freed(run, station, it)
     run.centre.expect("09000305090242fe04435101fe03000131")
-    run.expect("^event released 0/0/2 -> done$")
     clear(run, station, *register(run, station, reference="070a0d"))
     run.end()
 

@@ -87,7 +87,7 @@ def the_help(start, _room, _program):
     bridge.expect("^#: nothing$")
     told = {re.split("[ :]", line)[0] for line in bridge.out.lines if ": " in line} - {"#"}
     simulated = {word.decode() for word in SIMULATED}
-    must(told == {*taken} - simulated | {"help", "stations", "calls", "watch"}, f"it has {sorted(told)}")
+    must(told == {*taken} - simulated | {"help", "stations", "calls", "watch", "reopen"}, f"it has {sorted(told)}")
     bridge.end()
 
 

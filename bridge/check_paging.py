@@ -17,9 +17,14 @@ BY_IMSI = "0c1501900e020c0809101000000000202800"
 
 def paging(run, *elements):
     """The centre pages."""
+    run.centre.send(page(*elements))
+
+
+def page(*elements):
+    """PAGING with these elements, in a message of SCCP."""
     body = "52" + "".join(elements)
     message = f"00{len(body) // 2:02x}{body}"
-    run.centre.send(f"{UNIT_DATA}{len(message) // 2:02x}{message}")
+    return f"{UNIT_DATA}{len(message) // 2:02x}{message}"
 
 
 def identity(imsi):
@@ -49,6 +54,7 @@ def paged(start, _room, _program):
         for _ in range(3):
             sent(it, COMMAND)
     number, connection = answers(run, station)
+    run.settle()
     counts = count(station), count(other)
     time.sleep(1.5)
     must((count(station), count(other)) == counts, "it is paged once it has answered")
@@ -72,6 +78,7 @@ def answered_by_another(start, _room, _program):
         sent(station, COMMAND)
         clear(run, station, number, connection)
     number, connection = answers(run, station, "06270703571881" + IMSI[2:], "870f0d")
+    run.settle()
     at = count(station)
     time.sleep(1)
     must(count(station) == at, "it is paged once it has answered")
@@ -105,8 +112,7 @@ def nobody_answers(start, _room, _program):
             sent(station, COMMAND)
         time.sleep(1.5)
         must(count(station) == 2 * place + 2, f"it is paged {count(station)} times")
-    paging(run, IMSI, TMSI, AREA)
-    paging(run, IMSI, AREA)
+    run.centre.send(page(IMSI, TMSI, AREA), page(IMSI, AREA))
     for text in (COMMAND, BY_IMSI, BY_IMSI):
         sent(station, text)
     time.sleep(1)
@@ -197,11 +203,11 @@ def paging_ends_with_the_centre(start, _room, _program):
     station = run.begin()
     paging(run, IMSI, TMSI, AREA)
     sent(station, COMMAND)
-    run.centre.send(RESET)
+    run.centre.send(RESET, page(IMSI, TMSI, AREA))
     run.said.expect("A: the centre begins anew")
-    paging(run, IMSI, TMSI, AREA)
-    at = count(station)
     run.centre.expect("09000305090242fe04435101fe03000131")
+    run.settle()
+    at = count(station)
     time.sleep(1)
     must(count(station) == at, "it is paged yet")
     paging(run, IMSI, TMSI, AREA)

@@ -241,6 +241,43 @@ def said_while_moving(start, _room, _program):
     run.end()
 
 
+def strays_of_a_target(start, _room, _program):
+    """What comes from a target to which the mobile wasn't sent yet is nobody's: it neither opens the link nor ends it, isn't said
+    to the centre, and what the mobile says where it is doesn't wait for it."""
+    run = start()
+    station, other = run.begin(), run.station(SECOND)
+    number, connection = begin(run, station)
+    other.unanswered = {0x21}
+    run.ask("handover 1 1")
+    sent(other, "08210109.*")
+    # ESTABLISH INDICATION and CONFIRM, DATA INDICATION of both links; RELEASE INDICATION, ERROR INDICATION
+    opening = ("020601090243", "020501090243", "0302010902430b00028941", "0302010902000b0002055a")
+    ending = ("020901090243", "020301090243160101")
+    for text in opening:
+        say(other, text)
+    other.settle()
+    give(run, connection)
+    asked = sent(station, "(0204|0301)01090243.*")[1]
+    must(asked == "0204", "the target's link is taken for the mobile's")
+    say(station, "020501090243")
+    given(station)
+    for text in (*ending, *opening):
+        say(other, text)
+    other.settle()
+    give(run, connection, ACKNOWLEDGED)
+    asked = sent(station, "(0204|0207|0301)01090243.*")[1]
+    must(asked == "0301", "the target's link ends the mobile's")
+    up(run, station, number, connection, "055b")
+    speaks(run, station, connection)
+    run.ask("undo 1")
+    run.expect("^event undo 1 asked -> record", "^event released 1/0/1 -> done$")
+    clear(run, station, number, connection)
+    must(not any(it.endswith(("8941", "055a")) for it in run.centre.came), "the centre is told what comes from the target")
+    run.end()
+    line = run.said.expect("station 6970/0/0 .*: passed over: (.*)")[1]
+    must("DATA INDICATION where nobody was sent 4" in line.split(", "), f"strays aren't counted, but {line!r}")
+
+
 def too_much_waits(start, _room, _program):
     """More than sixteen messages don't wait for a link: the others are rejected, cause 24. Another SAPI than 0 and 3 is, too,
     cause 25. The call's end forgets what waits."""
@@ -302,6 +339,7 @@ CHECKS = [
     asked_link_comes_back,
     errors_of_a_link,
     said_while_moving,
+    strays_of_a_target,
     too_much_waits,
     odd_links,
 ]

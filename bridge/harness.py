@@ -59,23 +59,26 @@ class Lines:
 
     def expect(self, pattern, seconds=LIMIT):
         """Waits for a line that a pattern describes, behind those that were waited for before; the match."""
+        found, self.at = self.find(pattern, self.at, seconds)
+        return found
 
-        seen = self.at
+    def find(self, pattern, at, seconds=LIMIT):
+        """Waits for a line that a pattern describes, at a place or behind it; the match, and the place behind that line."""
+        seen = at
 
         def find():
             nonlocal seen
             while seen < len(self.lines):
                 seen += 1
                 if found := re.search(pattern, self.lines[seen - 1]):
-                    self.at = seen
                     return found
             return None
 
         with self.changed:
             found = self.changed.wait_for(find, seconds)
             if not found:
-                raise Unmet(f"no line {pattern!r}, but:\n    " + "\n    ".join(self.lines[self.at :][-15:]))
-            return found
+                raise Unmet(f"no line {pattern!r}, but:\n    " + "\n    ".join(self.lines[at:][-15:]))
+            return found, seen
 
 
 class Bridge:
@@ -96,12 +99,14 @@ class Bridge:
             errors="replace",
         )
         self.out, self.said = Lines(self.process.stdout), Lines(self.process.stderr)
+        self.stations = []
         self.port = int(self.said.expect(r"listens on [0-9.]+, port (\d+)")[1])
 
     def station(self, unit, trx=0):
         """A station for tests that is there."""
         station = TestStation(self.port, unit, trx)
         must(station.known.wait(LIMIT), f"{unit} isn't acknowledged")
+        self.stations.append(station)
         return station
 
     def ask(self, line):

@@ -44,11 +44,14 @@ class Log:
         self.put(f"# {stamp()} the log begins, or goes on, here\n".encode())
 
     def open_anew(self):
-        """Opens the file anew, as after it was moved away."""
+        """Opens the file anew, as after it was moved away; what came of that."""
         try:
             self.open()
         except OSError as error:
-            say(f"the log can't be opened anew, and goes on in the old file: {error}")
+            told = f"the log can't be opened anew, and goes on in the old file: {error}"
+            say(told)
+            return told
+        return f"{self.path}: the log is opened anew"
 
     def is_file(self):
         """Whether it is a file on a disk, which can be cut."""

@@ -77,11 +77,15 @@ unit = "6970/0/0"
 cell = 1
 {more}
 """
-# The gateway's timers: on a busy machine it may be slow to answer.
+# Timers of a network that don't run out where they are no matter of a check: on a busy machine the mobile, the centre, the
+# gateway and the check itself may be slow.
+OF_MOBILES, OF_CENTRE = ("t3101", "t3109", "t3113", "t10", "establish"), ("connect", "release", "clearing", "settle", "repeat")
 OF_GATEWAY = ("gateway", "gateway-repeat", "gateway-audit")
 # What is asked for of CONFIG beside timers, and what it is where that isn't asked for; `broadcast` are more lines of that table,
 # and `more` are other tables.
 KEYS = {"neci": 1, "awaited": 4, "pagings": 4, "band": 900, "transport": "ipa", "broadcast": "", "more": ""}
+# An operator's line of which nothing comes, but that it is printed: the site has no such cell.
+NOTHING = "handover 65535 63"
 # What a mobile says first, and what the centre answers, as in a location update of osmo-bsc and osmo-msc.
 UPDATE, ACCEPT, COMPLETE = "05087000f110001757080910100000000010", "050200f11000171705f44595ef80", "055b"
 CLEAR, CLEARED = "000420040109", "000121"
@@ -99,13 +103,15 @@ TAKEN, MOVE = f"001d121709062b093c09203c0005{SPEAKS}", "062b0a460940460005"
 class Run(Bridge):
     """A network that runs, with its centre and its stations."""
 
-    def __init__(self, program, room, port=None, acknowledges=True, centre=None, site=SITE, path=None, **options):
-        """`path` is where programs are looked for; other options are keys of CONFIG."""
+    def __init__(self, program, room, port=None, acknowledges=True, centre=None, site=SITE, path=None, words=(), **options):
+        """`path` is where programs are looked for, `words` are options of the command line; others are keys of CONFIG."""
         self.centre = centre or TestCentre()
         self.centre.acknowledges = acknowledges
         self.gateway = TestGateway()
+        # how many lines there were when the controller had last done all that it was given
+        self.done = 0
         self.room = room
-        patient = PATIENT | {name: 120 for name in ("t3101", "connect", "clearing", *OF_GATEWAY)}
+        patient = PATIENT | {name: 120 for name in (*OF_MOBILES, *OF_CENTRE, *OF_GATEWAY)}
         options = patient | {"t3111": 0.1, "t13": 0.1} | options
         keys = {name: options.pop(name, value) for name, value in KEYS.items()}
         lines = "\n".join(f"{name} = {seconds}" for name, seconds in options.items())
@@ -113,15 +119,31 @@ class Run(Bridge):
         ports = {"port": port or self.centre.port, "gateway": self.gateway.port}
         config = CONFIG.format(program=program, timers=lines, **ports, **keys)
         (room / "config.toml").write_text(config)
-        self.run(["env", f"PATH={path or os.environ['PATH']}", FOLDER / "network", room / "config.toml"], room)
+        self.run(["env", f"PATH={path or os.environ['PATH']}", FOLDER / "network", room / "config.toml", *words], room)
 
     def begin(self):
         """Waits for the centre; the first station, once that is there."""
         self.said.expect("A: the centre is there")
         return self.station(FIRST)
 
+    def catch_up(self):
+        """Waits until the controller has done all that it was given by now, and has printed that; how many lines there are then.
+        """
+        self.ask(NOTHING)
+        _, self.done = self.out.find(f"^in {NOTHING}$", self.done)
+        return self.done
+
+    def settle(self):
+        """Waits until the controller has done all that it was given by now, and what stations answer to that."""
+        self.catch_up()
+        for station in self.stations:
+            station.settle()
+        self.catch_up()
+
     def end(self, status=0, is_empty=True):
-        """Ends it; by then the book is empty."""
+        """Ends it; by then the book is empty. What is to be answered yet is answered before: behind the end nothing is."""
+        if is_empty and self.process.poll() is None:
+            self.settle()
         super().end(status)
         self.centre.stop()
         end = [line for line in self.out.lines if line.startswith("end ")]
@@ -212,7 +234,21 @@ def leave(run, station, number, cause=0):
     sent(station, f"030101{number}02000b0003060d{cause:02x}")
     say(station, f"020901{number}0200")
     sent(station, f"082e01{number}")
-    run.expect(f"^event released {int(station.unit[:4]) - 6969}/{station.trx}/{int(number, 16) & 7} -> done$")
+    freed(run, station, number)
+
+
+def freed(run, station, number):
+    """The release of a channel, which its station was sent, is answered, and the channel is free: what was released before
+    doesn't count."""
+    station.settle()
+    end = run.catch_up()
+    cell = int(station.unit[:4]) - 6969
+    channel = f"{cell}/{station.trx}/{int(number, 16) & 7}"
+    lines = run.out.lines[:end]
+    asked = max(place for place, line in enumerate(lines) if line == f"out abis {cell} {station.trx} 082e01{number}")
+    answer = f"event released {channel} -> done"
+    must(answer in lines[asked:], f"channel {channel} stays, but:\n    " + "\n    ".join(lines[-15:]))
+    run.out.at = max(run.out.at, lines.index(answer, asked) + 1)
 
 
 def clear(run, station, number, connection):
@@ -239,8 +275,16 @@ def passed(run, *kinds):
 
 def emptied(run):
     """Waits until no channel is in use."""
-    end = time.monotonic() + LIMIT
-    while "no channel is in use" not in run.out.lines:
-        must(time.monotonic() < end, "channels stay in use")
-        run.ask("calls")
-        time.sleep(0.2)
+    ask_until(run, "calls", "^no channel is in use$")
+
+
+def ask_until(run, question, pattern):
+    """An operator asks again and again, until the answer has a line that a pattern describes."""
+    end, is_answered = time.monotonic() + LIMIT, False
+    while not is_answered:
+        before = run.catch_up()
+        run.ask(question)
+        answer = run.out.lines[before : run.catch_up()]
+        is_answered = any(re.search(pattern, line) for line in answer)
+        must(is_answered or time.monotonic() < end, f"no answer to {question!r} has {pattern!r}, but {answer}")
+        time.sleep(0.0 if is_answered else 0.2)

@@ -3,6 +3,7 @@ import collections
 import re
 
 import access
+import figures
 import ipacc
 import link_layer
 import rsl
@@ -207,6 +208,10 @@ class NetworkRelay(Relay):
         super().come(station, link)
         for message in self.information.messages(self.config.cells[station.cell], station.trx):
             self.pass_on(station, message)
+
+    def figures(self):
+        """The figures of all that is known (figures.py)."""
+        return [*super().figures(), *figures.of_network(self)]
 
     def tell_all(self):
         """Says what is known of each station and of the centre."""

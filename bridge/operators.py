@@ -19,6 +19,7 @@ stations: the stations: since when each is there, its channels, its messages
 calls: the channels in use: of which call and since when, how the station has them, and whether that agrees; lost calls
 watch: from here on all that the controller prints; watch CALL: what comes of this call; watch off: no more of that
 summary: what came so far, counted in all and for each cell: calls, attempts at handover and their ends, messages, faults
+reopen: the log is opened anew, as after it was moved away
 help: this
 open CALL CELL TRX TN: a call begins on a channel, TN as 3, or 3/0 and 3/1 for halves of a timeslot
 seize CALL CELL RATE: a call begins on the lowest free channel of a cell, RATE full or half
@@ -51,6 +52,9 @@ class Operator:
             self.tell(*(station.known() for station in self.relay.stations.values()))
         elif words == [b"calls"]:
             self.tell(*self.relay.views.channels())
+        elif words == [b"reopen"]:
+            log = self.relay.log
+            self.tell(log.open_anew() if log else "refused: reopen: there is no log")
         elif words[0] == b"watch":
             self.watch(words[1:])
         elif words[0] in SIMULATED:

@@ -3,6 +3,7 @@ its events arm timers, and what stations leave open is closed in their place."""
 import collections
 import re
 
+import figures
 import rsl
 from calls import Calls, Event
 from endings import Endings
@@ -59,6 +60,8 @@ class Relay:
         # By number: lines that can't be read, each with who gave it, and why that is.
         self.unreadable, self.reasons = {}, {}
         self.unread = 0
+        # what came of lines, by how the controller's lines begin; and events, by name and reply
+        self.counts, self.events = collections.Counter(), collections.Counter()
         self.calls = Calls()
         self.lost = LostCalls(self)
         self.endings = Endings(times, seconds, self.release, self.once_read)
@@ -105,6 +108,7 @@ class Relay:
 
     def act(self, line):
         """Does what a line of the controller says."""
+        self.counts[line.split(b" ", 1)[0].decode()] += 1
         if line.startswith(b"line "):
             self.await_reason(int(line.split()[1]))
         elif sent := SENT.fullmatch(line):
@@ -122,6 +126,7 @@ class Relay:
 
     def follow(self, event):
         """An event was asked of the book."""
+        self.events[event.name, event.reply] += 1
         self.calls.follow(event)
         self.lost.follow(event)
         if event.reply != "refused":
@@ -366,6 +371,10 @@ class Relay:
                 self.say_for(station, rsl.RELEASE_ACK, number)
             elif use.state == ON:
                 self.say_for(station, rsl.CONNECTION_FAILURE, number, rsl.FAILURE)
+
+    def figures(self):
+        """The figures of all that is known (figures.py)."""
+        return figures.of_stations(self)
 
     def tell_all(self):
         """Says what is known of each station, and what was passed over."""

@@ -16,8 +16,8 @@ class TestStation:
     def __init__(self, port, unit, trx=0, source="127.0.0.1"):
         """`unit` is what it says it is; where that is None, it says nothing. It comes from the address `source`."""
         self.unit, self.trx = unit, trx
-        # types of messages that aren't answered
-        self.unanswered = set()
+        # types of messages that aren't answered, and how many seconds it takes to answer the others
+        self.unanswered, self.slowness = set(), 0.0
         # where it has speech: of each channel at a port of its own, counted from here
         self.ports = 0x4000
         self.answers_pings = True
@@ -61,6 +61,8 @@ class TestStation:
         self.take_speech(message)
         if message_type in self.unanswered:
             return
+        if message_type in (rsl.ACTIVATION, rsl.RELEASE):
+            time.sleep(self.slowness)
         if message_type == rsl.ACTIVATION:
             self.say(rsl.channel_message(rsl.ACTIVATION_ACK, channel, b"\x08\x00\x00"))
         elif message_type == rsl.RELEASE:
@@ -99,6 +101,20 @@ class TestStation:
         with self.changed:
             return sum(is_it(stream, message) for stream, message in self.came)
 
+    def settle(self, seconds=LIMIT):
+        """Waits until the other side has taken what this one answers to all that it was sent by now; where the link has ended,
+        nothing of that is to come."""
+        # the first answer comes behind all that was sent, which is answered by then; the second, once those answers are taken
+        for _ in range(2):
+            count = self.count(is_pong)
+            try:
+                self.frame(ipa.OWN, ipa.PING)
+            except OSError:
+                return
+            with self.changed:
+                if not self.changed.wait_for(lambda: not self.is_there or self.count(is_pong) > count, seconds):
+                    raise TimeoutError(f"{self.unit}: no answer to a ping")
+
     def await_end(self, seconds=LIMIT):
         """Waits until the other side has closed the link; whether it has."""
         with self.changed:
@@ -108,3 +124,8 @@ class TestStation:
         """Closes the link."""
         self.socket.shutdown(socket.SHUT_RDWR)
         self.socket.close()
+
+
+def is_pong(stream, message):
+    """Whether a frame answers a ping."""
+    return (stream, message) == (ipa.OWN, ipa.PONG)

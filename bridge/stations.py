@@ -9,7 +9,7 @@ from tell import now
 MOST_NAMES = 64
 # What a station was last told of a channel, or said of it: it activates the channel; that is on; the mobile there is sent away
 # before it is released; it releases it; the bridge itself had it released, and the controller isn't told.
-ACTIVATING, ON, LEAVING, RELEASING, CLOSING = "activating", "on", "leaving", "releasing", "closing"
+STATES = ACTIVATING, ON, LEAVING, RELEASING, CLOSING = "activating", "on", "leaving", "releasing", "closing"
 
 
 @dataclasses.dataclass(eq=False)
