@@ -1,4 +1,4 @@
-use super::{SITE, ends_so, equals_at, holds_at};
+use super::{SITE, ends_so, holds_at, is_whole_or_cut};
 use lab::rewound::rewind_run;
 use lab::run::{LabFault, Status};
 use refusing_heap::RefusingHeap;
@@ -57,11 +57,7 @@ fn an_undone_attempt_is_taken_out(rt: HostRuntime) -> Result<(), Fail> {
 fn runs_without(rt: &impl Abort, alloc: Global, n: u64) -> Result<bool, Fail> {
     let heap = RefusingHeap::refusing_nth(alloc, n);
     let (status, text) = printed(&heap, alloc, 6)?;
-    match status {
-        Ok(Status::Done) => equals_at(rt, text.as_str(), TAKEN_OUT, n),
-        Err(LabFault::NoMemory) => holds_at(rt, heap.was_refused() && text.is_empty(), n),
-        _ => holds_at(rt, false, (n, text.as_str())),
-    }
+    is_whole_or_cut(rt, &heap, (status, text.as_str()), TAKEN_OUT, n);
     Ok(!heap.was_refused())
 }
 
