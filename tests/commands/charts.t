@@ -174,7 +174,7 @@ Arrows go between the lanes of those who say and hear it. (Lanes and arrows are 
   controller to station 1: 1/1/3 RF CHANNEL RELEASE, call 1
   station 1 to controller: 1/1/3 RF CHANNEL RELEASE ACK, call 1
   $ ./lab run examples/two_cells.toml examples/handover_between.txt --peer examples/one_cell.toml --chart run.svg >printed
-  $ python3 arrows.py | head -n 6
+  $ python3 arrows.py | sed -n 1,6p
   station 0 of 1, controller 1, switching centre, controller 2, station 0 of 2
   controller 1 to station 0 of 1: 0/0/3 CHANNEL ACTIVATION, call 1
   station 0 of 1 to controller 1: 0/0/3 CHANNEL ACTIVATION ACK, call 1
