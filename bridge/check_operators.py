@@ -79,7 +79,8 @@ def torn_at_standard_input(start, _room, _program):
 
 
 def the_help(start, _room, _program):
-    """`help` has each keyword that the controller says it takes, simulators aside, and the bridge's own."""
+    """`help` has each keyword that the controller says it takes, simulators aside, and those that `live` and the bridge have
+    besides."""
     bridge = start()
     bridge.ask("nonsense")
     taken = bridge.said.expect("can't read: nonsense: a line begins with (.*), or with #")[1].replace(" or ", ", ").split(", ")
@@ -87,7 +88,7 @@ def the_help(start, _room, _program):
     bridge.expect("^#: nothing$")
     told = {re.split("[ :]", line)[0] for line in bridge.out.lines if ": " in line} - {"#"}
     simulated = {word.decode() for word in SIMULATED}
-    must(told == {*taken} - simulated | {"help", "stations", "calls", "watch", "reopen"}, f"it has {sorted(told)}")
+    must(told == {*taken} - simulated | {"summary", "help", "stations", "calls", "watch", "reopen"}, f"it has {sorted(told)}")
     bridge.end()
 
 
