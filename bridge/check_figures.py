@@ -153,15 +153,22 @@ def of_a_network(start, room, _program):
     run.end(is_empty=False)
 
 
+def version_of(path):
+    """Which file it is; one that took its place may have the number of one before."""
+    status = path.stat()
+    return status.st_ino, status.st_mtime_ns
+
+
 def never_half(start, room, _program):
     """Who reads the figures meanwhile finds a whole text each time, also where there is no room for the next one; then the
     old one stays, that is told, and it goes on."""
     path = room / "figures"
     bridge = start("--figures", "figures", "--figures-every", "0.001")
-    number = path.stat().st_ino
-    for _ in range(300):
+    first, reads, end = version_of(path), 0, time.monotonic() + LIMIT
+    while reads < 300 or version_of(path) == first:
+        must(time.monotonic() < end, "it isn't replaced")
         samples_in(path.read_text())
-    must(path.stat().st_ino != number, "it isn't replaced")
+        reads += 1
     resource.prlimit(bridge.process.pid, resource.RLIMIT_FSIZE, (100, resource.RLIM_INFINITY))
     bridge.said.expect("figures: the figures can't be written now: ")
     samples_in(path.read_text())
