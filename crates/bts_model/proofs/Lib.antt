@@ -12,3 +12,5 @@ mod SlotFacts
 mod DepartureFacts
 -- once the holds of a channel have ended, none keeps an answer about it
 mod HoldFacts
+-- what is heard of a mobile that came leaves, or holds keep it
+mod ArrivalFacts

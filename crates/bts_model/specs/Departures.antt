@@ -1,7 +1,9 @@
 -- How an answer leaves its channel: a hold comes first, then a cut, then a doubling. Ours, of no standard.
-use Rattle.std.specs.Prelude.{ℕ, if◌then◌else◌, List, [], ◌∷◌, ◌++◌, Option, Some, None, slice_set}
+use Rattle.std.specs.Prelude.{ℕ, if◌then◌else◌, List, [], ◌∷◌, ◌++◌, Option, Some, None, option_map, unwrap_or, slice_get, slice_set}
 use Rattle.bts_model.specs.declared.place.Place.{Place}
 use Rattle.bts_model.specs.declared.answer.Answer.{Answer}
+use Rattle.bts_model.specs.declared.answer.Answer.TheVariants.{Detection, Complete}
+use Rattle.bts_model.specs.declared.hold.Hold.{Hold}
 use Rattle.bts_model.specs.declared.slots.Impairment.{Impairment}
 use Rattle.bts_model.specs.declared.slots.Slot.{Slot}
 use Rattle.bts_model.specs.Names.{bits_of}
@@ -26,9 +28,18 @@ departed i x answer = once_or_twice i.doubles (x, cut_to i.cut (octets_of (bits_
 abbrev pub used_up : Slot → Option Slot
 used_up slot = if is_impaired slot.impairment then Some (record slot { impairment = unimpaired }) else None
 
+-- a hold has kept an answer
+abbrev pub keeping : List Hold → ℕ → Answer → List Hold
+keeping holds n answer = unwrap_or (option_map (λ h. slice_set holds n (record h { kept = Some answer })) (slice_get holds n)) holds
+
+-- the same, where there is such a hold
+abbrev pub kept_in : List Hold → Option ℕ → Answer → List Hold
+kept_in holds None answer = holds
+kept_in holds (Some n) answer = keeping holds n answer
+
 -- an answer is kept by this hold, or sent
 abbrev pub kept_or_sent : WorldState → Place → Answer → Option ℕ → Outcome
-kept_or_sent w x answer (Some n) = silent (record w { holds = slice_set w.holds n (record { place = x; kept = Some answer }) })
+kept_or_sent w x answer (Some n) = silent (record w { holds = keeping w.holds n answer })
 kept_or_sent w x answer None = record { world = with_slot w x (used_up (slot_in w.slots x)); sent = departed (slot_in w.slots x).impairment x answer }
 
 -- an answer about channel x leaves
@@ -55,3 +66,10 @@ slot_after slot (answer ∷ answers) = used_up slot
 
 abbrev pub all_sent : WorldState → Place → List Answer → Outcome
 all_sent w x answers = record { world = with_slot w x (slot_after (slot_in w.slots x) answers); sent = all_departed (slot_in w.slots x).impairment x answers }
+
+-- of what is heard of a mobile that came, what leaves, where these holds keep the one and the other
+abbrev pub unkept : Option ℕ → Option ℕ → List Answer
+unkept None None = Detection ∷ Complete ∷ []
+unkept None (Some complete) = Detection ∷ []
+unkept (Some detection) None = Complete ∷ []
+unkept (Some detection) (Some complete) = []

@@ -30,7 +30,7 @@ cut slot n = record slot { impairment = record slot.impairment { cut = Some n } 
 -- what comes of an act at a channel that the world has
 abbrev pub acted : WorldState → Place → Act → Outcome
 acted w x Refuse = silent (with_slot w x (Some (record (slot_in w.slots x) { refuses = true })))
-acted w x Hold = silent (record w { holds = w.holds ++ record { place = x; kept = None } ∷ [] })
+acted w x (Hold held) = silent (record w { holds = w.holds ++ record { place = x; held = held; kept = None } ∷ [] })
 acted w x Release = all_leave (record w { holds = others x w.holds }) x (kept_of x w.holds)
 acted w x (Mobile habit) = silent (with_slot w x (Some (record (slot_in w.slots x) { habit = habit })))
 acted w x Double = silent (with_slot w x (Some (doubled (slot_in w.slots x))))
@@ -43,7 +43,7 @@ set w setting = if has_channel w (place_of setting) then acted w (place_of setti
 -- An act may need memory: for what is known of a channel of which nothing was, for a hold, for what is sent.
 abbrev pub ActNeedsMemory : WorldState → Place → Act → Type 0
 ActNeedsMemory w x Refuse = map.get w.slots (key_of x) ≡ None
-ActNeedsMemory w x Hold = Unit {0}
+ActNeedsMemory w x (Hold held) = Unit {0}
 ActNeedsMemory w x Release = kept_of x w.holds ≢ []
 ActNeedsMemory w x (Mobile habit) = map.get w.slots (key_of x) ≡ None
 ActNeedsMemory w x Double = map.get w.slots (key_of x) ≡ None

@@ -11,10 +11,13 @@ use rsl_messages::{ChanBits, Octets, Rsl, encode};
 use std::alloc::{AllocError, Allocator, Global};
 
 /// What a station says of a channel, or passes on from the mobile on it.
-#[derive(Clone, Copy)]
+#[derive(Clone, Copy, Debug, PartialEq, Eq)]
 pub enum Answer {
+    /// CHANNEL ACTIVATION ACKNOWLEDGE.
     ActivationAck,
+    /// CHANNEL ACTIVATION NEGATIVE ACKNOWLEDGE.
     ActivationNack,
+    /// RF CHANNEL RELEASE ACKNOWLEDGE.
     ReleaseAck,
     /// A mobile reached the channel.
     Detection,
@@ -44,8 +47,8 @@ pub fn octets_of<A: Allocator + Copy>(
     channel: ChanBits,
     answer: Answer,
 ) -> Result<Vec<u8, A>, AllocError>
-    requires { channel.tn < 8 }
-    ensures { IfOk result (λ octets. octets.items ≡ octets_of channel answer) }
+    requires timeslot { channel.tn < 8 }
+    ensures octets { IfOk result (λ octets. octets.items ≡ octets_of channel answer) }
 {
     let message = message_of(alloc, channel, answer)?;
     encode(alloc, &message)

@@ -13,7 +13,7 @@ mod station;
 mod trx;
 mod world;
 
-pub use answer::StationOut;
+pub use answer::{Answer, StationOut, octets_of};
 pub use rsl_messages::Sub;
-pub use setting::{Act, Habit, Setting};
+pub use setting::{Act, Habit, Held, Setting};
 pub use world::World;

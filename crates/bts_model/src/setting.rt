@@ -16,14 +16,25 @@ pub enum Habit {
     Vanish,
 }
 
+/// What a station keeps back of a channel.
+#[derive(Clone, Copy, Debug, PartialEq, Eq)]
+pub enum Held {
+    /// An acknowledgement of an activation or a release.
+    Acknowledgement,
+    /// That it detected a mobile there.
+    Detection,
+    /// That the mobile says that it came.
+    Complete,
+}
+
 /// What a script asks of a channel.
 #[derive(Clone, Copy, Debug, PartialEq, Eq)]
 pub enum Act {
     /// The station refuses the next activation of the channel while that is inactive and none that it conflicts with is
     /// active. Said twice it counts once.
     Refuse,
-    /// The station keeps the next acknowledgement of an activation or a release of the channel; said again, one more.
-    Hold,
+    /// The station keeps the next answer of this kind about the channel; said again, one more.
+    Hold(Held),
     /// The station sends what it has kept of the channel, in order, and keeps nothing more.
     Release,
     /// The habit of mobiles on the channel.

@@ -9,14 +9,14 @@ ghost use Rattle.bts_model.specs.World.{fresh_world, has_channel, slot_in, is_in
 ghost use Rattle.rr_messages.specs.declared.message.Rr.{Rr};
 ghost use Rattle.bts_model.specs.Holds.{hold_of, kept_of};
 ghost use Rattle.bts_model.specs.Mobiles.{IsHeard, IsOnTimeslot};
-ghost use Rattle.bts_model.specs.Departures.{silent, all_sent};
+ghost use Rattle.bts_model.specs.Departures.{silent, all_sent, unkept};
 ghost use Rattle.bts_model.specs.Stations.{at_release};
 ghost use Rattle.bts_model.specs.Settings.{set, SetNeedsMemory, acted, ActNeedsMemory, doubled, cut};
 ghost use Rattle.bts_model.specs.Steps.{Gives, Comes, Steps, IsSaid, NeedsMemory, StepNeedsMemory, at_channel, reacted, activated, responded, passed_on};
 
 use crate::answer::{Answer, Outs, StationOut};
 use crate::departure::{all_departed, changed_and_left};
-use crate::hold::{Hold, all_kept, end_holds, hold_of};
+use crate::hold::{Hold, all_kept, end_holds, hold_of, keep, keep_in};
 use crate::mobile::{Response, heard_in, response_to};
 use crate::place::{Place, place_in};
 use crate::setting::{Act, Setting};
@@ -36,8 +36,8 @@ use std::sync::Arc;
 ///
 /// A station acknowledges each activation of an inactive channel, unless a refusal was asked for, and refuses each of an
 /// active one, and of one that conflicts with an active one; it acknowledges each release. A mobile that gets a HANDOVER
-/// COMMAND on an active channel goes by its habit. Answers leave at once, but an acknowledgement for which a hold waits is
-/// kept. As it leaves, an answer may be cut and doubled, where that was asked for.
+/// COMMAND on an active channel goes by its habit. Answers leave at once, but one for which a hold waits is kept. As it
+/// leaves, an answer may be cut and doubled, where that was asked for.
 #[derive(Drop)]
 pub struct World<A: Allocator = Global> {
     trxs: Vec<Trx, A>,
@@ -217,10 +217,7 @@ impl<A: Allocator + Copy> World<A> {
             None => self.leave(place, reaction.slot, &[reaction.answer]),
             Some(hold) => {
                 self.slots.change(place, reaction.slot)?;
-                self.holds[hold] = Hold {
-                    place,
-                    kept: Some(reaction.answer),
-                };
+                keep(&mut self.holds, hold, reaction.answer);
                 Ok(self.nothing())
             }
         }
@@ -295,9 +292,43 @@ impl<A: Allocator + Copy> World<A> {
         match response {
             Response::Unheard => Ok(self.nothing()),
             Response::Returned => self.leave(place, None, &[Answer::Failure]),
-            Response::Arrived(target) => {
-                self.leave(target, None, &[Answer::Detection, Answer::Complete])
-            }
+            Response::Arrived(target) => self.arrive(target),
+        }
+    }
+
+    /// What is heard of a mobile that came to a channel: its station detected it, and it says that it came. Each of the two
+    /// leaves, where no hold keeps it.
+    fn arrive(&mut self, target: Place) -> Outs<A>
+        requires { target.channel.tn < 8 }
+        ensures gives { IfOk result (λ outs. Gives (responded self.old target (Response.Arrived target))
+            self.new outs.items) }
+        ensures unchanged { OnErr result (self.new ≡ self.old) }
+    {
+        let detection = hold_of(self.holds.as_slice(), target, Answer::Detection);
+        let complete = hold_of(self.holds.as_slice(), target, Answer::Complete);
+        let outs = self.leave_unkept(target, detection, complete)?;
+        keep_in(&mut self.holds, detection, Answer::Detection);
+        keep_in(&mut self.holds, complete, Answer::Complete);
+        Ok(outs)
+    }
+
+    /// What comes of it that the two leave which no hold keeps.
+    fn leave_unkept(
+        &mut self,
+        target: Place,
+        detection: Option<usize>,
+        complete: Option<usize>,
+    ) -> Outs<A>
+        requires { target.channel.tn < 8 }
+        ensures gives { IfOk result (λ outs. Gives
+            (all_sent self.old target (unkept detection complete)) self.new outs.items) }
+        ensures unchanged { OnErr result (self.new ≡ self.old) }
+    {
+        match (detection, complete) {
+            (None, None) => self.leave(target, None, &[Answer::Detection, Answer::Complete]),
+            (None, Some(_)) => self.leave(target, None, &[Answer::Detection]),
+            (Some(_), None) => self.leave(target, None, &[Answer::Complete]),
+            (Some(_), Some(_)) => Ok(self.nothing()),
         }
     }
 
@@ -341,8 +372,12 @@ impl<A: Allocator + Copy> World<A> {
                 };
                 self.note(place, slot)
             }
-            Act::Hold => {
-                self.holds.push(Hold { place, kept: None })?;
+            Act::Hold(held) => {
+                self.holds.push(Hold {
+                    place,
+                    held,
+                    kept: None,
+                })?;
                 Ok(self.nothing())
             }
             Act::Release => self.let_out(place),

@@ -1,7 +1,8 @@
 -- The message on A that a text says (TS 48.008 clause 3.2.1), or the first thing that is wrong with the text: its name; a word
 -- that is no field of the message; then each field, in the order in which it stands here. A text is the list of its bytes;
 -- the words are ours, of no standard.
-use Rattle.std.specs.Prelude.{◌≡◌, ◌⊎◌, ℕ, if◌then◌else◌, List, [], ◌∷◌, codes, Option, Some, option_map, option_and_then, Ok, Err, IsOkAnd, bytes_eq}
+use Rattle.std.specs.Prelude.{◌≡◌, ◌⊎◌, ℕ, ◌+◌, ◌==◌, Bool, true, false, nat_le, if◌then◌else◌, List, [], ◌∷◌, length, codes, Option, Some, None, option_map, option_and_then, unwrap_or, Ok, Err, IsOkAnd, bytes_eq}
+use Rattle.std.specs.Result.{result_ok}
 use Rattle.encoded_messages.specs.declared.field_fault.Allowed.TheVariants as may
 use Rattle.encoded_messages.specs.FieldFaults.{Read as FieldRead, ◌>>=◌, ◌>>◌, read_map}
 use Rattle.encoded_messages.specs.Words.{parts_of}
@@ -140,3 +141,55 @@ Writes A text octets = IsOkAnd (message_in {A = A} text) (λ message. HasCanonic
 -- The first thing that is wrong with a text: they say no message, and why; or one that has no canonical text.
 abbrev pub HasFault : Type 0 → List ℕ → Fault → Type 0
 HasFault A text fault = (message_in {A = A} text ≡ Err fault) ⊎ ((fault ≡ TooLong) × IsOkAnd (message_in {A = A} text) (λ message. HasCanonical message → ⊥))
+
+-- so many octets of a classmark: of type 1 one
+abbrev pub classmark_len : {A : Type 0} → Classmark A → ℕ
+classmark_len (One octet) = 1
+classmark_len (Two octets) = length octets
+
+-- how many octets of channel type, encryption information and classmark together have room in HANDOVER REQUEST, by those of
+-- the classmark
+abbrev pub request_room : ℕ → ℕ
+request_room classmark = if classmark == 1 then 233 else 232
+
+abbrev pub request_fits : ℕ → ℕ → ℕ → Bool
+request_fits channel encryption classmark = nat_le (channel + encryption + classmark) (request_room classmark)
+
+-- a message that a text says has a canonical text: it isn't too long
+abbrev pub can_be_written : {A : Type 0} → Bssmap A → Bool
+can_be_written (HandoverRequest channel encryption classmark serving target) = request_fits (length channel) (length encryption) (classmark_len classmark)
+can_be_written (HandoverRequired cause response cells) = nat_le (length cells) 61
+can_be_written (HandoverRequestAck layer3) = nat_le (length layer3) 250
+can_be_written (HandoverCommand layer3) = nat_le (length layer3) 250
+can_be_written (HandoverComplete rr) = true
+can_be_written (HandoverFailure cause rr) = true
+can_be_written (HandoverPerformed cause cell) = true
+can_be_written (HandoverRequiredReject cause) = true
+can_be_written HandoverDetect = true
+can_be_written (ClearCommand cause) = true
+can_be_written ClearComplete = true
+can_be_written (ClearRequest cause) = true
+
+-- the canonical text of a message, where it has one
+abbrev pub octets_of_message : {A : Type 0} → Bssmap A → Option (List ℕ)
+octets_of_message message = if can_be_written message then Some (canonical_text message) else None
+
+-- the same of what fields say
+abbrev pub can_be_written_of : FieldRead (Bssmap Unit) → Bool
+can_be_written_of read = unwrap_or (option_map can_be_written (result_ok read)) false
+
+-- and of what a name and fields say
+abbrev pub can_be_written_in : Read (Bssmap Unit) → Bool
+can_be_written_in read = unwrap_or (option_map can_be_written (result_ok read)) false
+
+-- the field of cells has so many or fewer
+abbrev pub few_cells_at : ℕ → List ℕ → Bool
+few_cells_at most fields = unwrap_or (option_map (λ cells. nat_le (length cells) most) (result_ok (cells_at fields))) false
+
+-- a layer 3 message that isn't too long
+abbrev pub short_layer3 : FieldRead (List ℕ) → Bool
+short_layer3 read = unwrap_or (option_map (λ layer3. nat_le (length layer3) 250) (result_ok read)) false
+
+-- The octets of the message that a text says, which is its canonical text; nothing where the text says none that has one.
+unfoldable pub octets_said : List ℕ → Option (List ℕ)
+octets_said text = option_and_then octets_of_message (result_ok (message_in {A = Unit} text))

@@ -1,7 +1,8 @@
 -- The message on Abis that a text says (TS 48.058 clause 8), or the first thing that is wrong with the text: its name; a word
 -- that is no field of the message; then each field, in the order in which it stands here. A text is the list of its bytes;
 -- the words are ours, of no standard.
-use Rattle.std.specs.Prelude.{◌≡◌, ◌⊎◌, ℕ, if◌then◌else◌, List, [], ◌∷◌, codes, Ok, Err, IsOkAnd, bytes_eq}
+use Rattle.std.specs.Prelude.{◌≡◌, ◌⊎◌, ℕ, ◌+◌, ◌&&◌, Bool, true, false, nat_le, if◌then◌else◌, List, [], ◌∷◌, length, codes, Option, Some, None, option_map, option_and_then, unwrap_or, Ok, Err, IsOkAnd, bytes_eq}
+use Rattle.std.specs.Result.{result_ok}
 use Rattle.encoded_messages.specs.FieldFaults.{Read as FieldRead, ◌>>=◌, ◌>>◌, read_map}
 use Rattle.encoded_messages.specs.Fields.{name_of, fields_of, only_keys, number_at, traffic_channel_at, optional_octet_at, octets_at, optional_octets_at}
 use Rattle.rsl_messages.specs.declared.message.ChanBits.{ChanBits}
@@ -118,3 +119,42 @@ Writes A text octets = IsOkAnd (message_in {A = A} text) (λ message. HasCanonic
 -- The first thing that is wrong with a text: they say no message, and why; or one that has no canonical text.
 abbrev pub HasFault : Type 0 → List ℕ → Fault → Type 0
 HasFault A text fault = (message_in {A = A} text ≡ Err fault) ⊎ ((fault ≡ TooLong) × IsOkAnd (message_in {A = A} text) (λ message. HasCanonical message → ⊥))
+
+-- Behind the head and the channel number of MEASUREMENT RESULT, in 1,024 octets, so many of uplink measurements and, where
+-- there is one, of a report have room.
+abbrev pub measured_fit : ℕ → Option ℕ → Bool
+measured_fit uplink None = nat_le uplink 255
+measured_fit uplink (Some report) = nat_le uplink 255 && nat_le (uplink + report) 1011
+
+-- a message that a text says has a canonical text: no list in it is too long, nor all of it
+abbrev pub can_be_written : {A : Type 0} → Rsl A → Bool
+can_be_written (DataRequest channel link layer3) = nat_le (length layer3) 1015
+can_be_written (DataIndication channel link layer3) = nat_le (length layer3) 1015
+can_be_written (ChannelActivation channel activation mode reference) = nat_le (length mode) 255
+can_be_written (ChannelActivationAck channel frame) = true
+can_be_written (ChannelActivationNack channel cause) = true
+can_be_written (ConnectionFailureIndication channel cause) = true
+can_be_written (HandoverDetection channel delay) = true
+can_be_written (MeasurementResult channel number uplink power layer3) = measured_fit (length uplink) (option_map (λ octets. length octets) layer3)
+can_be_written (RfChannelRelease channel) = true
+can_be_written (RfChannelReleaseAck channel) = true
+
+-- the canonical text of a message, where it has one
+abbrev pub octets_of_message : {A : Type 0} → Rsl A → Option (List ℕ)
+octets_of_message message = if can_be_written message then Some (canonical_text message) else None
+
+-- the same of what fields say
+abbrev pub can_be_written_of : FieldRead (Rsl Unit) → Bool
+can_be_written_of read = unwrap_or (option_map can_be_written (result_ok read)) false
+
+-- and of what a name and fields say
+abbrev pub can_be_written_in : Read (Rsl Unit) → Bool
+can_be_written_in read = unwrap_or (option_map can_be_written (result_ok read)) false
+
+-- so many octets, where they are at most this many
+abbrev pub up_to : ℕ → Option ℕ → Option ℕ
+up_to most octets = option_and_then (λ n. if nat_le n most then Some n else None) octets
+
+-- The octets of the message that a text says, which is its canonical text; nothing where the text says none that has one.
+unfoldable pub octets_said : List ℕ → Option (List ℕ)
+octets_said text = option_and_then octets_of_message (result_ok (message_in {A = Unit} text))

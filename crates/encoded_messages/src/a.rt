@@ -1,5 +1,5 @@
 //! Messages on A from words (TS 48.008 clause 3.2.1).
-ghost use Rattle.std.specs.Prelude.{◌≡◌, ◌≢◌, ◌++◌, ◌∷◌, [], Some, None, OnOk, IfOk, IfErr, codes, option_map};
+ghost use Rattle.std.specs.Prelude.{◌≡◌, ◌≢◌, ◌++◌, ◌∷◌, [], Some, None, OnOk, IfOk, IfErr, codes, length, option_map, is_some};
 ghost use Rattle.encoded_messages.specs.FieldFaults.{Value, read_of, fault_of, Answers};
 ghost use Rattle.encoded_messages.specs.Fields.{only_keys};
 ghost use Rattle.encoded_messages.specs.Forms.{keys_of};
@@ -18,7 +18,7 @@ use crate::values::cell_in;
 use crate::visit::{FieldValue, Fields, hand_on};
 use crate::words::first_part;
 use bssmap_messages::{Bssmap, CellId, CellList, Classmark, Octets, encode, fits};
-use std::alloc::Allocator;
+use std::alloc::{Allocator, Global};
 
 /// The fields of messages on A.
 const CHANNEL: FieldForm<'static> = FieldForm("channel", Allowed::Octets(2));
@@ -488,10 +488,14 @@ fn message_of<'a, A: Allocator + Copy>(
 }
 
 /// The octets of the message on A that a text says: its canonical text.
+#[tactic(auto, using(crate::proofs::ALemmas::said_octets, crate::proofs::ALemmas::said_too_long, crate::proofs::ALemmas::said_nothing))]
 pub fn encode_a<A: Allocator + Copy>(alloc: A, text: &str) -> Result<Vec<u8, A>, MessageFault<'_>>
     ensures octets { IfOk result (λ octets. said.Writes A text.now octets.items) }
+    ensures said { IfOk result (λ octets. said.octets_said text.now ≡ Some octets.items) }
     ensures fault { IfErr result (λ fault. fault ≢ MessageFault.NoMemory →
         said.HasFault A text.now (faults.fault_of fault)) }
+    ensures unsaid { IfErr result (λ fault. fault ≢ MessageFault.NoMemory →
+        said.octets_said text.now ≡ None) }
 {
     let (name, fields) = name_and_fields(text);
     let message = message_of(alloc, name, fields)?;
@@ -499,4 +503,120 @@ pub fn encode_a<A: Allocator + Copy>(alloc: A, text: &str) -> Result<Vec<u8, A>,
         return Err(MessageFault::TooLong);
     }
     Ok(encode(alloc, &message)?)
+}
+
+/// Whether each part of a list of cells names one; answers how many there are. Takes no memory.
+fn cells_len(list: &str) -> Option<usize>
+    ensures { result ≡ option_map (λ cells. length cells) (said.cells_of (parts_of list.now)) }
+{
+    if list.split(',').all(|part| cell_of(part).is_some()) {
+        Some(list.split(',').count())
+    } else {
+        None
+    }
+}
+
+/// Whether the only field of cells has so many or fewer.
+#[tactic(auto, unfolding(crate::specs::A::cells_at))]
+fn says_cells(fields: &str, most: usize) -> bool
+    ensures { result ≡ said.few_cells_at most fields.now }
+{
+    let Ok(list) = value(fields, CELLS.0) else {
+        return false;
+    };
+    match cells_len(list) {
+        Some(cells) => cells <= most,
+        None => false,
+    }
+}
+
+/// Whether fields say a HANDOVER REQUIRED that can be written.
+#[tactic(auto, unfolding(crate::specs::A::handover_required))]
+fn says_required(fields: &str) -> bool
+    ensures { result ≡ said.can_be_written_of (said.handover_required {A = Unit} fields.now) }
+{
+    only_fields(fields, HANDOVER_REQUIRED).is_ok()
+        && CAUSE.octet(fields).is_ok()
+        && RESPONSE.flag(fields).is_ok()
+        && says_cells(fields, 61)
+}
+
+/// Whether so many octets of the channel type, of the encryption information and of the classmark have room in a HANDOVER
+/// REQUEST.
+fn request_fits(channel: usize, encryption: usize, classmark: usize) -> bool
+    ensures { result ≡ said.request_fits channel encryption classmark }
+{
+    if channel > 255 || encryption > 255 || classmark > 255 {
+        return false;
+    }
+    let most = if classmark == 1 { 233 } else { 232 };
+    channel + encryption + classmark <= most
+}
+
+/// Whether fields say a HANDOVER REQUEST that can be written.
+#[tactic(auto, using(crate::proofs::ALemmas::classmark_octets), unfolding(crate::specs::A::handover_request, crate::specs::A::classmark_at))]
+fn says_request(fields: &str) -> bool
+    ensures { result ≡ said.can_be_written_of (said.handover_request {A = Unit} fields.now) }
+{
+    let lengths = (
+        CHANNEL.octets_len(fields),
+        ENCRYPTION.octets_len(fields),
+        CLASSMARK.octets_len(fields),
+    );
+    only_in_request(fields).is_ok()
+        && request_cells(fields).is_ok()
+        && match lengths {
+            (Some(channel), Some(encryption), Some(classmark)) => {
+                request_fits(channel, encryption, classmark)
+            }
+            (None, _, _) | (_, None, _) | (_, _, None) => false,
+        }
+}
+
+/// Whether fields are a layer 3 message alone that can be written.
+#[tactic(auto, unfolding(crate::specs::A::layer3_alone))]
+fn says_layer3(fields: &str, form: MessageForm<'static>) -> bool
+    requires { keys_of form.fields.now ≡ codes "layer3" ∷ [] }
+    ensures { result ≡ said.short_layer3 (said.layer3_alone fields.now) }
+{
+    let layer3 = LAYER3.octets_len(fields);
+    only_fields(fields, form).is_ok()
+        && match layer3 {
+            Some(octets) => octets <= 250,
+            None => false,
+        }
+}
+
+/// Whether a name and its fields say a message without a list, which can always be written.
+fn says_short(name: &str, fields: &str) -> bool
+    ensures { result ≡ said.can_be_written_in (said.short_message {A = Unit} name.now fields.now) }
+{
+    short_message::<Global>(name, fields).is_ok()
+}
+
+/// Whether a name and its fields say a message that can be written.
+#[tactic(auto, using(crate::proofs::ALemmas::written_of_fields, crate::proofs::ALemmas::written_of_layer3), unfolding(crate::specs::A::message_of))]
+fn says_message(name: &str, fields: &str) -> bool
+    ensures { result ≡ said.can_be_written_in (said.message_of {A = Unit} name.now fields.now) }
+{
+    if name == HANDOVER_REQUEST.name {
+        says_request(fields)
+    } else if name == HANDOVER_REQUIRED.name {
+        says_required(fields)
+    } else if name == HANDOVER_REQUEST_ACK.name {
+        says_layer3(fields, HANDOVER_REQUEST_ACK)
+    } else if name == HANDOVER_COMMAND.name {
+        says_layer3(fields, HANDOVER_COMMAND)
+    } else {
+        says_short(name, fields)
+    }
+}
+
+/// Whether a text says a message on A that can be written: [`encode_a`] gives its octets, memory aside. Takes no memory.
+#[tactic(auto, using(crate::proofs::ALemmas::says_octets))]
+pub fn says_a(text: &str) -> bool
+    ensures said { result ≡ is_some (said.octets_said text.now) }
+{
+    let (name, fields) = name_and_fields(text);
+    says_message(name, fields)
 }

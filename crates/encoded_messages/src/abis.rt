@@ -1,5 +1,5 @@
 //! Messages on Abis from words (TS 48.058 clause 8).
-ghost use Rattle.std.specs.Prelude.{◌≡◌, ◌≢◌, ◌∷◌, [], IfOk, IfErr, codes};
+ghost use Rattle.std.specs.Prelude.{◌≡◌, ◌≢◌, ◌∷◌, [], Some, None, IfOk, IfErr, codes, is_some};
 ghost use Rattle.encoded_messages.specs.Fields.{only_keys};
 ghost use Rattle.encoded_messages.specs.Forms.{keys_of};
 ghost use Rattle.encoded_messages.specs.FieldFaults.{read_of, Answers};
@@ -13,7 +13,7 @@ use crate::form::{FieldForm, MessageForm};
 use crate::name::name_and_fields;
 use crate::visit::{FieldValue, Fields, hand_on};
 use rsl_messages::{ChanBits, Octets, Rsl, encode, fits};
-use std::alloc::Allocator;
+use std::alloc::{Allocator, Global};
 
 /// The fields of messages on Abis.
 const TN: FieldForm<'static> = FieldForm("tn", Allowed::TrafficChannel);
@@ -424,13 +424,17 @@ fn message_of<'a, A: Allocator + Copy>(
 }
 
 /// The octets of the message on Abis that a text says: its canonical text.
+#[tactic(auto, using(crate::proofs::AbisLemmas::said_octets, crate::proofs::AbisLemmas::said_too_long, crate::proofs::AbisLemmas::said_nothing))]
 pub fn encode_abis<A: Allocator + Copy>(
     alloc: A,
     text: &str,
 ) -> Result<Vec<u8, A>, MessageFault<'_>>
     ensures octets { IfOk result (λ octets. said.Writes A text.now octets.items) }
+    ensures said { IfOk result (λ octets. said.octets_said text.now ≡ Some octets.items) }
     ensures fault { IfErr result (λ fault. fault ≢ MessageFault.NoMemory →
         said.HasFault A text.now (faults.fault_of fault)) }
+    ensures unsaid { IfErr result (λ fault. fault ≢ MessageFault.NoMemory →
+        said.octets_said text.now ≡ None) }
 {
     let (name, fields) = name_and_fields(text);
     let message = message_of(alloc, name, fields)?;
@@ -438,4 +442,102 @@ pub fn encode_abis<A: Allocator + Copy>(
         return Err(MessageFault::TooLong);
     }
     Ok(encode(alloc, &message)?)
+}
+
+/// Whether a field has octets, and at most so many.
+fn is_within(octets: Option<usize>, most: usize) -> bool
+    ensures { result ≡ is_some (said.up_to most octets) }
+{
+    match octets {
+        Some(octets) => octets <= most,
+        None => false,
+    }
+}
+
+/// Whether fields say a DATA REQUEST that can be written, and so a DATA INDICATION, whose fields are the same.
+#[tactic(auto, unfolding(crate::specs::Abis::data_request, crate::specs::Abis::data_indication))]
+fn says_data(fields: &str, form: MessageForm<'static>) -> bool
+    requires { keys_of form.fields.now ≡ codes "tn" ∷ codes "link" ∷ codes "layer3" ∷ [] }
+    ensures request { result ≡ said.can_be_written_of (said.data_request {A = Unit} fields.now) }
+    ensures indication { result ≡ said.can_be_written_of (said.data_indication {A = Unit} fields.now) }
+{
+    only_fields(fields, form).is_ok()
+        && channel(fields).is_ok()
+        && LINK.octet(fields).is_ok()
+        && is_within(LAYER3.octets_len(fields), 1015)
+}
+
+/// Whether fields say a CHANNEL ACTIVATION that can be written.
+#[tactic(auto, unfolding(crate::specs::Abis::activation))]
+fn says_activation(fields: &str) -> bool
+    ensures { result ≡ said.can_be_written_of (said.activation {A = Unit} fields.now) }
+{
+    only_in_activation(fields).is_ok()
+        && channel(fields).is_ok()
+        && ACTIVATION.octet(fields).is_ok()
+        && is_within(MODE.octets_len(fields), 255)
+        && REFERENCE.optional_octet(fields).is_ok()
+}
+
+/// Whether so many octets of uplink measurements and, where there is one, of a report have room in a MEASUREMENT RESULT.
+fn measured_fit(uplink: usize, report: Option<usize>) -> bool
+    ensures { result ≡ said.measured_fit uplink report }
+{
+    match report {
+        None => uplink <= 255,
+        Some(report) => uplink <= 255 && report <= 1011 - uplink,
+    }
+}
+
+/// Whether fields say a MEASUREMENT RESULT that can be written.
+#[tactic(auto, unfolding(crate::specs::Abis::measurement))]
+fn says_measurement(fields: &str) -> bool
+    ensures { result ≡ said.can_be_written_of (said.measurement {A = Unit} fields.now) }
+{
+    let lengths = (
+        UPLINK.octets_len(fields),
+        REPORT.optional_octets_len(fields),
+    );
+    only_in_measurement(fields).is_ok()
+        && channel(fields).is_ok()
+        && NUMBER.octet(fields).is_ok()
+        && POWER.octet(fields).is_ok()
+        && match lengths {
+            (Some(uplink), Some(report)) => measured_fit(uplink, report),
+            (None, _) | (_, None) => false,
+        }
+}
+
+/// Whether a name and its fields say a message without octets, which can always be written.
+fn says_short(name: &str, fields: &str) -> bool
+    ensures { result ≡ said.can_be_written_in (said.short_message {A = Unit} name.now fields.now) }
+{
+    short_message::<Global>(name, fields).is_ok()
+}
+
+/// Whether a name and its fields say a message that can be written.
+#[tactic(auto, using(crate::proofs::AbisLemmas::written_of_fields), unfolding(crate::specs::Abis::message_of))]
+fn says_message(name: &str, fields: &str) -> bool
+    ensures { result ≡ said.can_be_written_in (said.message_of {A = Unit} name.now fields.now) }
+{
+    if name == DATA_REQUEST.name {
+        says_data(fields, DATA_REQUEST)
+    } else if name == DATA_INDICATION.name {
+        says_data(fields, DATA_INDICATION)
+    } else if name == CHANNEL_ACTIVATION.name {
+        says_activation(fields)
+    } else if name == MEASUREMENT_RESULT.name {
+        says_measurement(fields)
+    } else {
+        says_short(name, fields)
+    }
+}
+
+/// Whether a text says a message on Abis that can be written: [`encode_abis`] gives its octets, memory aside. Takes no memory.
+#[tactic(auto, using(crate::proofs::AbisLemmas::says_octets))]
+pub fn says_abis(text: &str) -> bool
+    ensures said { result ≡ is_some (said.octets_said text.now) }
+{
+    let (name, fields) = name_and_fields(text);
+    says_message(name, fields)
 }

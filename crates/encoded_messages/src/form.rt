@@ -1,5 +1,6 @@
 //! The forms of messages in words, by which they are read, printed and listed.
-ghost use Rattle.std.specs.Prelude.{◌≡◌, ◌≢◌, ◌≤◌, ◌<◌, Ok, Err, IfOk, MatchResult, option_map};
+ghost use Rattle.std.specs.Prelude.{◌≡◌, ◌≢◌, ◌≤◌, ◌<◌, Ok, Err, IfOk, MatchResult, length, option_map};
+ghost use Rattle.std.specs.Result.{result_ok};
 ghost use Rattle.encoded_messages.specs.FieldFaults.{read_of, fault_of};
 ghost use Rattle.encoded_messages.specs.Fields as said;
 ghost use Rattle.encoded_messages.specs.Forms as form;
@@ -8,8 +9,9 @@ ghost use Rattle.encoded_messages.specs.declared.field_fault.FieldFault.TheVaria
 
 use crate::field_fault::{Allowed, FieldFault};
 use crate::fields::{
-    flag, number, octets, optional_octet, optional_octets, small, traffic_channel,
+    flag, number, octets, optional_octet, optional_octets, small, traffic_channel, value,
 };
+use crate::values::octets_len;
 use rsl_messages::Sub;
 use std::alloc::Allocator;
 
@@ -114,6 +116,41 @@ impl FieldForm<'static> {
     {
         match self.1 {
             Allowed::OptionalOctets(least) => optional_octets(alloc, fields, self.0, least),
+            _ => unreachable!(),
+        }
+    }
+
+    /// How many octets this field has; nothing where it isn't as it may be. Takes no memory.
+    #[tactic(auto, unfolding(crate::specs::Fields::octets_at))]
+    pub(crate) fn octets_len(self, fields: &str) -> Option<usize>
+        requires { form.IsOctets self.1 }
+        ensures { result ≡ option_map (λ octets. length octets)
+            (result_ok (said.octets_at (form.least_of self.entry.1) self.entry.0.now fields.now)) }
+    {
+        let Ok(value) = value(fields, self.0) else {
+            return None;
+        };
+        match self.1 {
+            Allowed::Octets(least) => octets_len(value, least),
+            _ => unreachable!(),
+        }
+    }
+
+    /// How many octets this field has, or that it is `-`; nothing where it isn't as it may be. Takes no memory.
+    #[tactic(auto, unfolding(crate::specs::Fields::optional_octets_at))]
+    pub(crate) fn optional_octets_len(self, fields: &str) -> Option<Option<usize>>
+        requires { form.IsOptionalOctets self.1 }
+        ensures { result ≡ option_map (λ found. option_map (λ octets. length octets) found)
+            (result_ok (said.optional_octets_at (form.least_of self.entry.1) self.entry.0.now fields.now)) }
+    {
+        let Ok(value) = value(fields, self.0) else {
+            return None;
+        };
+        if value == "-" {
+            return Some(None);
+        }
+        match self.1 {
+            Allowed::OptionalOctets(least) => Some(Some(octets_len(value, least)?)),
             _ => unreachable!(),
         }
     }

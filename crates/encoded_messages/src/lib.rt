@@ -17,6 +17,7 @@
 
 mod a;
 mod abis;
+mod checked;
 mod fault;
 mod field_fault;
 mod fields;
@@ -27,8 +28,9 @@ mod values;
 mod visit;
 mod words;
 
-pub use a::{A_FORMS, a_name, encode_a, visit_a};
-pub use abis::{ABIS_FORMS, abis_name, encode_abis, visit_abis};
+pub use a::{A_FORMS, a_name, encode_a, says_a, visit_a};
+pub use abis::{ABIS_FORMS, abis_name, encode_abis, says_abis, visit_abis};
+pub use checked::{a_fault, abis_fault};
 pub use fault::MessageFault;
 pub use field_fault::{Allowed, FieldFault, Shown};
 pub use fields::{

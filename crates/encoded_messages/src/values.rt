@@ -1,6 +1,6 @@
 //! What the value of a field says.
-ghost use Rattle.std.specs.Prelude.{◌≡◌, ◌<◌, ◌≤◌, IfOk, IfSome, option_map};
-ghost use Rattle.std.specs.Char.{is_ascii_digit};
+ghost use Rattle.std.specs.Prelude.{◌≡◌, ◌<◌, ◌≤◌, IfOk, IfSome, length, option_map};
+ghost use Rattle.std.specs.Char.{is_ascii_digit, is_ascii_hexdigit};
 ghost use Rattle.std.specs.List.{list_all};
 ghost use Rattle.encoded_messages.specs.Values as said;
 
@@ -107,6 +107,28 @@ pub(crate) fn octets_in<A: Allocator>(
         Err(FromHexError::OutOfMemory) => Err(AllocError),
         _ => Ok(None),
     }
+}
+
+/// Whether a text has hexadecimal digits alone.
+fn is_hex_digits(text: &str) -> bool
+    ensures { result ≡ list_all is_ascii_hexdigit text.now }
+{
+    text.bytes().all(|byte| byte.is_ascii_hexdigit())
+}
+
+/// How many octets a text writes in hexadecimal, in either case, where there are so many or more. Takes no memory.
+#[tactic(auto, using(crate::proofs::ValueLemmas::odd_refused, crate::proofs::ValueLemmas::digits_refused, crate::proofs::ValueLemmas::enough_counted, crate::proofs::ValueLemmas::few_refused))]
+pub(crate) fn octets_len(text: &str, least: usize) -> Option<usize>
+    ensures { result ≡ option_map (λ octets. length octets) (said.octets_of least text.now) }
+{
+    if text.len() % 2 == 1 {
+        return None;
+    }
+    if !is_hex_digits(text) {
+        return None;
+    }
+    let octets = text.len() / 2;
+    if octets >= least { Some(octets) } else { None }
 }
 
 /// The location area code and the cell identity of `LAC/CI`.

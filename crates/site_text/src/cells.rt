@@ -1,6 +1,6 @@
 //! The cells of a site.
 ghost use Rattle.std.specs.Prelude.{◌↔◌, IsTrue};
-ghost use Rattle.site_text.specs.Cells.{IsNeighbour, HasNeighbour};
+ghost use Rattle.site_text.specs.Cells.{IsNeighbour, HasNeighbour, IsOneSided};
 
 use cell_table::Site;
 use cell_table::limits::{FIRST_OUTSIDE, MOST_CELLS, MOST_OUTSIDE};
@@ -64,6 +64,13 @@ pub(crate) fn has_neighbours<A: Allocator + Copy>(site: &Site<A>, cell: u8) -> b
     false
 }
 
+/// Whether another own cell is a neighbour of an own cell, which is none of that.
+pub(crate) fn is_one_sided<A: Allocator + Copy>(site: &Site<A>, cell: u8, other: u8) -> bool
+    ensures { IsTrue result ↔ IsOneSided site.now cell other }
+{
+    other < site.cells() && is_neighbour(site, cell, other) && !is_neighbour(site, other, cell)
+}
+
 /// Prints the traffic channels of a TRX, behind a timeslot its halves, where it has such.
 fn print_timeslots<W: Write>(
     cell: u8,
@@ -96,7 +103,7 @@ fn print_channels<A: Allocator + Copy, W: Write>(
     Ok(())
 }
 
-/// Prints the neighbours of an own cell by their numbers.
+/// Prints the neighbours of an own cell by their numbers, each with the position and the code by which mobiles name it.
 fn print_neighbours<A: Allocator + Copy, W: Write>(
     site: &Site<A>,
     cell: u8,
@@ -107,8 +114,10 @@ fn print_neighbours<A: Allocator + Copy, W: Write>(
         write!(out, " -")?;
     }
     for other in 0..CELL_NUMBERS {
-        if is_neighbour(site, cell, other) {
-            write!(out, " {other}")?;
+        if is_neighbour(site, cell, other)
+            && let Some((position, bsic)) = site.reported_as(cell, other)
+        {
+            write!(out, " {other}:{position}/{bsic}")?;
         }
     }
     Ok(())
@@ -130,9 +139,10 @@ fn print_cell<A: Allocator + Copy, W: Write>(
 }
 
 /// Prints the cells of a site, one a line in the order of their numbers: the own cells with what identifies them, the
-/// power level that mobiles begin with, their traffic channels in the order of the file, and the numbers of their
-/// neighbours, which are the cells, own and outside, whose carrier is in the cell's neighbour list (TS 44.018 clause
-/// 10.5.2.22); then the outside cells with what identifies them. `-` stands for no neighbour.
+/// power level that mobiles begin with, their traffic channels in the order of the file, and their neighbours, which are the
+/// cells, own and outside, whose carrier is in the cell's neighbour list (TS 44.018 clause 10.5.2.22): the number of each, its
+/// position in that list, and its base station identity code; then the outside cells with what identifies them. `-` stands for
+/// no neighbour.
 pub fn print_cells<A: Allocator + Copy, W: Write>(site: &Site<A>, out: &mut W) -> io::Result<()> {
     for cell in 0..site.cells() {
         print_cell(site, cell, out)?;

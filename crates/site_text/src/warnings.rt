@@ -4,7 +4,7 @@ ghost use Rattle.cell_table.specs.SiteFile.{key_name};
 ghost use Rattle.site_text.specs.Cells.{IsCarrierOfAnother};
 ghost use Rattle.site_text.specs.Keys.{keys_of, IsNameOf};
 
-use crate::cells::{CELL_NUMBERS, has_neighbours};
+use crate::cells::{CELL_NUMBERS, has_neighbours, is_one_sided};
 use crate::document::{Place, entries};
 use cell_table::{Key, Site};
 use std::alloc::Allocator;
@@ -131,12 +131,20 @@ fn warn_of_neighbours<A: Allocator + Copy, W: Write>(
     if !has_neighbours(site, cell) {
         writeln!(out, "warning: cell {cell} has no neighbours")?;
     }
+    for other in 0..site.cells() {
+        if is_one_sided(site, cell, other) {
+            writeln!(
+                out,
+                "warning: cell {other} is a neighbour of cell {cell}, but cell {cell} is none of cell {other}"
+            )?;
+        }
+    }
     Ok(())
 }
 
 /// Prints what is allowed in a site's file and surely meant otherwise, one a line: first the keys that are ignored, then
-/// cell by cell the carriers in `ba` that no other cell has, and whether it has no neighbours. `document` is the file's text as
-/// TOML, and `site` the site that it describes.
+/// cell by cell the carriers in `ba` that no other cell has, whether it has no neighbours, and which of its neighbours, own
+/// cells, don't have it as theirs. `document` is the file's text as TOML, and `site` the site that it describes.
 pub fn print_warnings<A: Allocator + Copy, W: Write>(
     site: &Site<A>,
     document: &Value,

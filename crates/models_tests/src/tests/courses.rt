@@ -4,7 +4,7 @@ use super::stations::{
     ACK, ACK_2, ACTIVATE, ACTIVATE_2, ACTIVATE_42, COMMAND, COMPLETE, DETECTION, FAILURE, NACK,
     Out, RELEASE, RELEASED, Row, play,
 };
-use bts_model::{Act, Habit};
+use bts_model::{Act, Habit, Held};
 use channel_fsm::ChanId;
 use sample_sites::{HOME, TARGET};
 use std::test::Fail;
@@ -46,7 +46,14 @@ const ACTIVATIONS: &[Row] = &[
     (Send(0, 0, 1, ACTIVATE), &[]),
     (Send(0, 64, 0, ACTIVATE), &[]),
     (Send(usize::MAX, 0, 0, RELEASE), &[]),
-    (Set(0, ChanId { tn: 8, ..HOME }, Act::Hold), &[]),
+    (
+        Set(
+            0,
+            ChanId { tn: 8, ..HOME },
+            Act::Hold(Held::Acknowledgement),
+        ),
+        &[],
+    ),
 ];
 
 #[test]

@@ -6,7 +6,7 @@ use super::stations::{
     ACK, ACK_2, ACTIVATE, ACTIVATE_2, ACTIVATE_42, COMMAND, COMPLETE, DETECTION, FAILURE, NACK,
     Out, RELEASE, RELEASED, Row, play,
 };
-use bts_model::{Act, Habit};
+use bts_model::{Act, Habit, Held};
 use channel_fsm::{ChanId, Sub};
 use sample_sites::{HOME, UPPER};
 use std::test::Fail;
@@ -60,7 +60,7 @@ const CONFLICTS: &[Row] = &[
     (Send(0, 0, 0, ACTIVATE_HALF_0), &[(0, 0, 0, NACK_HALF_0)]),
     (Send(0, 0, 0, ACTIVATE_HALF_0), &[(0, 0, 0, ACK_HALF_0)]),
     // holds and what befalls an answer are a channel's own
-    (Set(0, HALF_0, Act::Hold), &[]),
+    (Set(0, HALF_0, Act::Hold(Held::Acknowledgement)), &[]),
     (Set(0, HALF_0, Act::Double), &[]),
     (Send(0, 0, 0, RELEASE_HALF_1), &[(0, 0, 0, RELEASED_HALF_1)]),
     (Send(0, 0, 0, RELEASE_HALF_0), &[]),

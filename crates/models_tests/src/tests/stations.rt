@@ -1,7 +1,7 @@
 //! A simulated world: how a course is played in it, and that it answers where memory is refused. All octets are worked out
 //! by hand from TS 48.058 clauses 8 and 9 and TS 44.018 clauses 9 and 10.
 use super::holds_at;
-use bts_model::{Act, Habit, Setting, StationOut, World};
+use bts_model::{Act, Habit, Held, Setting, StationOut, World};
 use cell_table::Site;
 use channel_fsm::ChanId;
 use refusing_heap::RefusingHeap;
@@ -147,13 +147,13 @@ const COURSE: &[Row] = &[
     (Send(0, 0, 0, ACTIVATE), &[(0, 0, 0, NACK)]),
     (Send(0, 0, 0, ACTIVATE), &[(0, 0, 0, ACK)]),
     (Send(0, 0, 0, COMMAND), &[(0, 0, 0, FAILURE)]),
-    (Set(0, TARGET, Act::Hold), &[]),
+    (Set(0, TARGET, Act::Hold(Held::Acknowledgement)), &[]),
     (Send(0, 1, 1, ACTIVATE_42), &[]),
     (
         Send(0, 0, 0, COMMAND),
         &[(0, 1, 1, DETECTION), (0, 1, 1, COMPLETE)],
     ),
-    (Set(0, TARGET, Act::Hold), &[]),
+    (Set(0, TARGET, Act::Hold(Held::Acknowledgement)), &[]),
     (Send(0, 1, 1, RELEASE), &[]),
     (
         Set(0, TARGET, Act::Release),

@@ -22,10 +22,11 @@ fn printed(alloc: Global, text: &str) -> Result<String, Fail> {
     Ok(String::from_utf8(out)?)
 }
 
-/// The cells of the site with three channels.
+/// The cells of the site with three channels. In its list of 62, 70 and 871, cell 0 finds cell 1 (871) at place 2, and cell 64
+/// (62) at place 0; cell 1 finds cell 0 (60) at place 0. The colour codes of a neighbour are one number: 8 times `ncc`, and `bcc`.
 const CELLS: &str =
-    "cell 0 lac=23 ci=100 bcch=60 bsic=1/1 power=5 channels 0/0/2 0/0/3 neighbours 1 64
-cell 1 lac=23 ci=101 bcch=871 bsic=2/5 power=5 channels 1/1/3 neighbours 0
+    "cell 0 lac=23 ci=100 bcch=60 bsic=1/1 power=5 channels 0/0/2 0/0/3 neighbours 1:2/21 64:0/24
+cell 1 lac=23 ci=101 bcch=871 bsic=2/5 power=5 channels 1/1/3 neighbours 0:0/9
 outside 64 lac=23 ci=102 bcch=62 bsic=3/0
 ";
 

@@ -1,0 +1,4 @@
+-- facts of the lines of a trace
+pub mod EntryLemmas
+-- a line without the carriage return that may end it
+pub mod Returns
