@@ -1,20 +1,24 @@
 -- Facts of turns, and of the course of a script.
-use Rattle.std.proofs.Common.{◌≡◌, ◌++◌, ◌∷◌, ◌<◌, ℕ, zero, suc, Bool, true, List, [], Option, Some, None, IsSome, IfSome, length, get_or, is_some, option_map, refl, sym, ap, ◌∙◌, append_assoc, append-nil, subst, rules, arith, Result, Ok, Err, OnOk, IfOk}
+use Rattle.std.proofs.Common.{◌≡◌, ◌++◌, ◌∷◌, ◌<◌, ℕ, zero, suc, Bool, true, List, [], Option, Some, None, IsSome, IfSome, length, get_or, is_some, option_map, map, slice_get, refl, sym, ap, ◌∙◌, append_assoc, append-nil, subst, rules, arith, Result, Ok, Err, OnOk, IfOk}
 use Rattle.std.proofs.lemmas.Bool.{and_parts}
 use Rattle.std.proofs.lemmas.Result.{on_ok_weaker}
 use Rattle.cell_table.specs.Site.{SiteView}
 use Rattle.ho_procedure.specs.declared.exchange.Inbound.{Inbound}
 use Rattle.lab_script.specs.declared.side.Side.{Side}
 use Rattle.lab_script.specs.declared.side.Side.TheVariants.{First, Peer}
+use Rattle.lab_script.specs.declared.script.Given.{Given}
+use Rattle.lab_script.specs.declared.script.Given.TheVariants.{Input}
 use Rattle.lab_script.specs.declared.script.Item.{Item}
 use Rattle.lab_script.specs.Script.{AreThere, is_item_there}
+use Rattle.lab_script.specs.Sides.{is_there, number_of}
 use Rattle.lab_runs.specs.declared.controllers.Controllers.{Controllers}
 use Rattle.lab_runs.specs.declared.turn.Source.{Source}
+use Rattle.lab_runs.specs.declared.turn.Source.TheVariants.{Script}
 use Rattle.lab_runs.specs.declared.turn.Turn.{Turn}
 use Rattle.lab_runs.specs.declared.course.Course.{Course}
 use Rattle.lab_runs.specs.declared.course.Run.{Run}
-use Rattle.lab_runs.specs.Turns.{Position, AreTurns, IsTurn, IsTurnOf, listed, scripted, input_in, inputs_in}
-use Rattle.lab_runs.specs.Course.{Went, AreOpenings, IsRunOf, Played, positions_of, option_list, has_peer}
+use Rattle.lab_runs.specs.Turns.{Position, AreTurns, IsTurn, IsTurnOf, Gives, GivesTo, Plays, listed, scripted}
+use Rattle.lab_runs.specs.Course.{Went, Follows, AreOpenings, IsRunOf, Played, positions_of, option_list, has_peer}
 
 pub turns_joined : {A : Type 0} (all : List Position) (ts : List (Turn A)) (m : List Position) (us : List (Turn A)) (all' : List Position) → AreTurns all ts m → AreTurns m us all' → AreTurns all (ts ++ us) all'
 turns_joined all [] m us all' h k = rw (sym h) k
@@ -23,11 +27,6 @@ turns_joined all (t ∷ ts) m us all' h k = (h.0, h.1, turns_joined h.0 ts m us 
 pub scripted_joined : {A : Type 0} (ts us : List (Turn A)) → scripted (ts ++ us) ≡ scripted ts ++ scripted us
 scripted_joined [] us = refl
 scripted_joined (t ∷ ts) us = ap (λ rest. listed t.source t.side t.input ++ rest) (scripted_joined ts us) ∙ sym (append_assoc (listed t.source t.side t.input) (scripted ts) (scripted us))
-
--- the inputs of two lists, one behind the other
-pub inputs_joined : {A : Type 0} (items more : List (Item A)) → inputs_in (items ++ more) ≡ inputs_in items ++ inputs_in more
-inputs_joined [] more = refl
-inputs_joined (item ∷ items) more = ap (λ rest. input_in item.side item.given ++ rest) (inputs_joined items more) ∙ sym (append_assoc (input_in item.side item.given) (inputs_in items) (inputs_in more))
 
 -- the first controller took a turn
 pub first_took : {A : Type 0} (all : Controllers A) (s' : Position) (t : Turn A) → t.side ≡ First → IsTurn all.first t s' → IsTurnOf (positions_of all) t (s' ∷ option_list all.peer)
@@ -101,50 +100,133 @@ there_at has [] k d all l = absurd (omega arith)
 there_at has (item ∷ items) zero d all l = (and_parts (is_item_there has item) _ all).0
 there_at has (item ∷ items) (suc k) d all l = there_at has items k d (and_parts (is_item_there has item) _ all).1 (omega arith)
 
+-- turns of items, and then of more
+pub plays_on : {A : Type 0} (items more : List (Item A)) (all : List Position) (ts : List (Turn A)) (m : List Position) (us : List (Turn A)) (all' : List Position)
+    → Plays items all ts m → Plays more m us all' → Plays (items ++ more) all (ts ++ us) all'
+plays_on [] more all ts m us all' h k = rw (h.0, sym h.1) k
+plays_on (item ∷ items) more all ts m us all' (inputs, gives, mine, rest, n, is, run, scripted, plays) k =
+    (inputs, gives, mine, rest ++ us, n, ap (λ all. all ++ us) is ∙ append_assoc mine rest us, run, scripted, plays_on items more n rest m us all' plays k)
+
+-- what an item gives was handled
+pub follows_one : {A : Type 0} (item : Item A) (inputs : List (Side × Inbound A)) (c c' : Course A) → Gives (positions_of c.controllers) item inputs → Went inputs c c' → Follows (item ∷ []) c c'
+follows_one item inputs c c' gives h = record {
+  turns = h.turns;
+  noted = h.noted;
+  plays = (inputs, gives, h.turns, [], positions_of c'.controllers, sym (append-nil h.turns), h.run, h.scripted, (refl, refl));
+  peer = h.peer;
+}
+
+-- a controller that is there has a position
+there_in : (first : Position) (peer : Option Position) (side : Side) → is_there (is_some peer) side ≡ true → (s : Position) × (slice_get (first ∷ option_list peer) (number_of side) ≡ Some s)
+there_in first peer First h = (first, refl)
+there_in first (Some s) Peer h = (s, refl)
+there_in first None Peer h = absurd (search (rules, h))
+
+-- the inputs that an item gives were handled
+pub follows_given : {A : Type 0} (item : Item A) (given : List (Inbound A)) (c c' : Course A) → is_item_there (has_peer c) item ≡ true
+    → ((s : Position) → slice_get (positions_of c.controllers) (number_of item.side) ≡ Some s → GivesTo s item.given given)
+    → Went (map (λ input. (item.side, input)) given) c c' → Follows (item ∷ []) c c'
+follows_given item given c c' there gives h =
+    let (s, at) = there_in c.controllers.first c.controllers.peer item.side there in
+    follows_one item _ c c' (record { controller = s; there = at; given = given; gives = gives s at; for_it = refl }) h
+
+-- an item that is an input gives that
+pub follows_input : {A : Type 0} (item : Item A) (input : Inbound A) (c c' : Course A) → is_item_there (has_peer c) item ≡ true → item.given ≡ Input input
+    → Went (listed Script item.side input) c c' → Follows (item ∷ []) c c'
+follows_input item input c c' there is h =
+    follows_given item (input ∷ []) c c' there (λ s at. subst (λ g. GivesTo s g (input ∷ [])) (sym is) refl) h
+
+-- an item that gives no input
+pub follows_silent : {A : Type 0} (item : Item A) (given : Given A) (c c' : Course A) → is_item_there (has_peer c) item ≡ true → item.given ≡ given → ((s : Position) → GivesTo s given [])
+    → Went [] c c' → Follows (item ∷ []) c c'
+follows_silent item given c c' there is gives h = follows_given item [] c c' there (λ s at. subst (λ g. GivesTo s g []) (sym is) (gives s)) h
+
+-- an item whose parts are these
+pub follows_as : {A : Type 0} (item : Item A) (given : Given A) (c c' : Course A) → item.given ≡ given → Follows (record { side = item.side; given = given } ∷ []) c c' → Follows (item ∷ []) c c'
+follows_as item given c c' is h = subst (λ (i : Item _). Follows (i ∷ []) c c') (λ i. record { side = item.side; given = sym is i }) h
+
+-- nothing was given
+pub follows_none : {A : Type 0} (c : Course A) → Follows [] c c
+follows_none c = record { turns = []; noted = search rules; plays = (refl, refl); peer = refl }
+
+-- and then more
+pub follows_on : {A : Type 0} (items more : List (Item A)) (c c' c'' : Course A) → Follows items c c' → Follows more c' c'' → Follows (items ++ more) c c''
+follows_on items more c c' c'' h k = record {
+  turns = h.turns ++ k.turns;
+  noted = k.noted ∙ (ap (λ front. front ++ k.turns) h.noted ∙ append_assoc c.turns.items h.turns k.turns);
+  plays = plays_on items more _ h.turns _ k.turns _ h.plays k.plays;
+  peer = k.peer ∙ h.peer;
+}
+
+-- and then what simulators send
+pub plays_then : {A : Type 0} (item : Item A) (all : List Position) (ts : List (Turn A)) (m : List Position) (us : List (Turn A)) (all' : List Position)
+    → Plays (item ∷ []) all ts m → AreTurns m us all' → scripted us ≡ [] → Plays (item ∷ []) all (ts ++ us) all'
+plays_then item all ts m us all' (inputs, gives, mine, rest, n, is, run, given, (none, last)) turns others =
+    let whole : ts ≡ mine = is ∙ (ap (λ rest. mine ++ rest) none ∙ append-nil mine) in (
+      inputs,
+      gives,
+      mine ++ us,
+      [],
+      all',
+      ap (λ ts. ts ++ us) whole ∙ sym (append-nil (mine ++ us)),
+      turns_joined all mine n us all' run (subst (λ m. AreTurns m us all') last turns),
+      scripted_joined mine us ∙ (rw (given, others) (append-nil inputs)),
+      (refl, refl),
+    )
+
+pub follows_then : {A : Type 0} (item : Item A) (c c' c'' : Course A) → Follows (item ∷ []) c c' → Went [] c' c'' → Follows (item ∷ []) c c''
+follows_then item c c' c'' h k = record {
+  turns = h.turns ++ k.turns;
+  noted = k.noted ∙ (ap (λ front. front ++ k.turns) h.noted ∙ append_assoc c.turns.items h.turns k.turns);
+  plays = plays_then item _ h.turns _ k.turns _ h.plays k.run k.scripted;
+  peer = k.peer ∙ h.peer;
+}
+
+-- the same where all went well
+pub follows_past : {A X E : Type 0} (item : Item A) (c c' c'' : Course A) (r : Result X E) → Follows (item ∷ []) c c' → OnOk r (Went [] c' c'') → OnOk r (Follows (item ∷ []) c c'')
+follows_past item c c' c'' r h = on_ok_weaker r (follows_then item c c' c'' h)
+
 -- from empty books on, all was handled
-pub all_played : {A : Type 0} (sites : List SiteView) (inputs : List (Side × Inbound A)) (c c' : Course A) → AreOpenings sites (positions_of c.controllers) → Went inputs c c' → Played A sites inputs
-all_played sites inputs c c' openings h = record {
+pub all_played : {A : Type 0} (sites : List SiteView) (items : List (Item A)) (c c' : Course A) → AreOpenings sites (positions_of c.controllers) → Follows items c c' → Played A sites items
+all_played sites items c c' openings h = record {
   first = positions_of c.controllers;
   openings = openings;
   turns = h.turns;
   last = positions_of c'.controllers;
-  run = h.run;
-  scripted = h.scripted;
+  plays = h.plays;
 }
 
 -- a course that began so with no turn, and went on to what a run is made of
-pub all_ran : {A : Type 0} (sites : List SiteView) (inputs : List (Side × Inbound A)) (c c' : Course A) (run : Run A) → AreOpenings sites (positions_of c.controllers) → c.turns.items ≡ [] → Went inputs c c' → run.turns ≡ c'.turns → run.controllers ≡ c'.controllers → IsRunOf sites inputs run
-all_ran sites inputs c c' run openings none h turns controllers =
+pub all_ran : {A : Type 0} (sites : List SiteView) (items : List (Item A)) (c c' : Course A) (run : Run A) → AreOpenings sites (positions_of c.controllers) → c.turns.items ≡ [] → Follows items c c' → run.turns ≡ c'.turns → run.controllers ≡ c'.controllers → IsRunOf sites items run
+all_ran sites items c c' run openings none h turns controllers =
     let noted : run.turns.items ≡ h.turns = ap (λ (ts : _). ts.items) turns ∙ (h.noted ∙ ap (λ front. front ++ h.turns) none) in
     let last : positions_of run.controllers ≡ positions_of c'.controllers = ap (λ (all : Controllers _). positions_of all) controllers in
     record {
       first = positions_of c.controllers;
       openings = openings;
-      turns = subst (λ ts. AreTurns (positions_of c.controllers) ts (positions_of run.controllers)) (sym noted)
-          (subst (λ all. AreTurns (positions_of c.controllers) h.turns all) (sym last) h.run);
-      scripted = ap (λ ts. scripted ts) noted ∙ h.scripted;
+      plays = subst (λ ts. Plays items (positions_of c.controllers) ts (positions_of run.controllers)) (sym noted)
+          (subst (λ all. Plays items (positions_of c.controllers) h.turns all) (sym last) h.plays);
     }
 
 -- what ran was played
-pub was_played : {A : Type 0} (sites : List SiteView) (inputs : List (Side × Inbound A)) (run : Run A) → IsRunOf sites inputs run → Played A sites inputs
-was_played sites inputs run h = record {
+pub was_played : {A : Type 0} (sites : List SiteView) (items : List (Item A)) (run : Run A) → IsRunOf sites items run → Played A sites items
+was_played sites items run h = record {
   first = h.first;
   openings = h.openings;
   turns = run.turns.items;
   last = positions_of run.controllers;
-  run = h.turns;
-  scripted = h.scripted;
+  plays = h.plays;
 }
 
 -- where there is a run, it was played
-pub some_played : {A : Type 0} (sites : List SiteView) (inputs : List (Side × Inbound A)) (run : Option (Run A)) → IfSome run (λ r. IsRunOf sites inputs r) → IsSome run → Played A sites inputs
-some_played sites inputs (Some run) h is = was_played sites inputs run h
-some_played sites inputs None h is = absurd (search (rules, is))
+pub some_played : {A : Type 0} (sites : List SiteView) (items : List (Item A)) (run : Option (Run A)) → IfSome run (λ r. IsRunOf sites items r) → IsSome run → Played A sites items
+some_played sites items (Some run) h is = was_played sites items run h
+some_played sites items None h is = absurd (search (rules, is))
 
 -- what was followed to its end was played
-pub heard_played : {A E : Type 0} (sites : List SiteView) (inputs : List (Side × Inbound A)) (c c' : Course A) (r : Result Bool E) → AreOpenings sites (positions_of c.controllers) → IfOk r (λ well. well ≡ true → Went inputs c c') → IfOk r (λ well. well ≡ true → Played A sites inputs)
-heard_played sites inputs c c' (Ok well) openings h = λ on. all_played sites inputs c c' openings (h on)
-heard_played sites inputs c c' (Err fault) openings h = tt
+pub heard_played : {A E : Type 0} (sites : List SiteView) (items : List (Item A)) (c c' : Course A) (r : Result Bool E) → AreOpenings sites (positions_of c.controllers) → IfOk r (λ well. well ≡ true → Follows items c c') → IfOk r (λ well. well ≡ true → Played A sites items)
+heard_played sites items c c' (Ok well) openings h = λ on. all_played sites items c c' openings (h on)
+heard_played sites items c c' (Err fault) openings h = tt
 
 -- what is made of a value is there just where the value is
 pub is_there_still : {A B : Type 0} (f : A → B) (o : Option A) → is_some (option_map f o) ≡ is_some o

@@ -1,3 +1,4 @@
+pub mod Asked
 pub mod Course
 pub mod Notes
 pub mod Owing

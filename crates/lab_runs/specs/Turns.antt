@@ -1,5 +1,5 @@
 -- Inputs, and what came of each. Ours, of no standard.
-use Rattle.std.specs.Prelude.{◌≡◌, ◌++◌, Bool, true, false, List, [], ◌∷◌, Option, Some, None, drop, length, slice_get, slice_set}
+use Rattle.std.specs.Prelude.{◌≡◌, ◌++◌, Bool, true, false, List, [], ◌∷◌, map, Option, Some, None, drop, length, slice_get, slice_set}
 use Rattle.std.specs.List.{filter_map}
 use Rattle.cell_table.specs.Site.{SiteView}
 use Rattle.radio_book.specs.Run.{Leads}
@@ -16,7 +16,7 @@ use Rattle.ho_procedure.specs.Plan.{Plan, Ends, At}
 use Rattle.ho_procedure.specs.Handling.{IsRow, IsUndecoded, Handles}
 use Rattle.lab_script.specs.declared.side.Side.{Side}
 use Rattle.lab_script.specs.declared.script.Given.{Given}
-use Rattle.lab_script.specs.declared.script.Given.TheVariants.{Input, Attach, Set, HangUp}
+use Rattle.lab_script.specs.declared.script.Given.TheVariants.{Input, Attach, Set, HangUp, Ask, MobileOf}
 use Rattle.lab_script.specs.declared.script.Item.{Item}
 use Rattle.lab_script.specs.Sides.{number_of}
 use Rattle.lab_runs.specs.declared.turn.Source.{Source}
@@ -26,6 +26,7 @@ use Rattle.lab_runs.specs.declared.turn.Answer.TheVariants.{Sent, Undecoded}
 use Rattle.lab_runs.specs.declared.turn.Turn.{Turn}
 use Rattle.radio_book.specs.State.{State}
 use Rattle.lab_runs.specs.Notes.{NotingState, with_notes, AreTrueSteps}
+use Rattle.lab_runs.specs.Asked.{AreAsked}
 
 -- a controller between two inputs: its desk with notes, the last reports of each call, and its site
 abbrev pub Position : Type 0
@@ -97,16 +98,31 @@ abbrev pub scripted : {A : Type 0} → List (Turn A) → List (Side × Inbound A
 scripted [] = []
 scripted (t ∷ turns) = listed t.source t.side t.input ++ scripted turns
 
--- the inputs among what a script gives
-abbrev pub input_in : {A : Type 0} → Side → Given A → List (Side × Inbound A)
-input_in side (Input input) = (side, input) ∷ []
-input_in side Attach = []
-input_in side (Set setting) = []
-input_in side (HangUp call) = []
+-- What is given gives a controller these inputs, as the controller is when the line is played: an input is that one; what is
+-- asked is found by its book; nothing else gives any.
+abbrev pub GivesTo : {A : Type 0} → Position → Given A → List (Inbound A) → Type 0
+GivesTo s (Input input) inputs = inputs ≡ input ∷ []
+GivesTo s Attach inputs = inputs ≡ []
+GivesTo s (Set setting) inputs = inputs ≡ []
+GivesTo s (HangUp call) inputs = inputs ≡ []
+GivesTo s (Ask asked) inputs = AreAsked s.0.desk asked inputs
+GivesTo s (MobileOf call habit) inputs = inputs ≡ []
 
-abbrev pub inputs_in : {A : Type 0} → List (Item A) → List (Side × Inbound A)
-inputs_in [] = []
-inputs_in (item ∷ items) = input_in item.side item.given ++ inputs_in items
+-- what a line gives the one of some controllers that it is for
+pub record Gives {A : Type 0} (all : List Position) (item : Item A) (inputs : List (Side × Inbound A)) : Type 0 where
+  pub controller : Position
+  pub there : slice_get all (number_of item.side) ≡ Some controller
+  pub given : List (Inbound A)
+  pub gives : GivesTo controller item.given given
+  pub for_it : inputs ≡ map (λ input. (item.side, input)) given
+
+-- These turns are those of what a script gives, in its order: each item has its inputs, as the controllers are when it is
+-- played, and with them what is a simulator's by its source.
+abbrev pub Plays : {A : Type 0} → List (Item A) → List Position → List (Turn A) → List Position → Type 0
+Plays [] all turns all' = (turns ≡ []) × (all' ≡ all)
+Plays {A} (item ∷ items) all turns all' =
+    (inputs : List (Side × Inbound A)) × Gives all item inputs × (mine : List (Turn A)) × (rest : List (Turn A)) × (m : List Position)
+    × (turns ≡ mine ++ rest) × AreTurns all mine m × (scripted mine ≡ inputs) × Plays items m rest all'
 
 -- what is given attaches the simulators
 abbrev pub is_attach : {A : Type 0} → Given A → Bool
@@ -114,3 +130,5 @@ is_attach (Input input) = false
 is_attach Attach = true
 is_attach (Set setting) = false
 is_attach (HangUp call) = false
+is_attach (Ask asked) = false
+is_attach (MobileOf call habit) = false

@@ -1,16 +1,21 @@
 //! The controllers of a course: that of the first site, and the peer's where there is one.
-ghost use Rattle.std.specs.Prelude.{◌≡◌, ◌∷◌, true, is_some, option_map, IfOk};
-ghost use Rattle.lab_script.specs.Sides.{is_there};
-ghost use Rattle.lab_runs.specs.Turns.{IsTurnOf};
-ghost use Rattle.lab_runs.specs.Course.{IsOpening, AreOpenings, positions_of, option_list};
+ghost use Rattle.std.specs.Prelude.{◌≡◌, [], ◌∷◌, Some, true, false, is_some, length, option_map, slice_get, IfOk, OnOk, OnErr};
+ghost use Rattle.lab_script.specs.Sides.{is_there, number_of};
+ghost use Rattle.lab_runs.specs.Asked.{AreAsked};
+ghost use Rattle.lab_runs.specs.Turns.{Position, IsTurnOf};
+ghost use Rattle.lab_runs.specs.Course.{IsOpening, BeginsWith, IsAnewAt, AreOpenings, positions_of, option_list};
 
+use crate::asked::{Met, Unmet, inputs_asked};
+use crate::calls::mobile_channel;
 use crate::listener::Listener;
 use crate::noting::Noting;
 use crate::run::LabFault;
 use crate::turn::{Source, Turn, TurnFault, take_turn};
 use cell_table::Site;
+use channel_fsm::ChanId;
 use ho_procedure::controller::Controller;
 use ho_procedure::exchange::Inbound;
+use lab_script::asked::Asked;
 use lab_script::script::Side;
 use radio_book::book::Book;
 use radio_desk::desk::Desk;
@@ -37,6 +42,18 @@ fn fresh<A: Allocator + Copy>(
     Ok(Controller::new(alloc, view, site.clone()?))
 }
 
+/// A controller over a book, which was given nothing yet.
+fn over<A: Allocator + Copy>(
+    alloc: A,
+    book: Book<A>,
+) -> Result<Controller<Noting<A>, A>, AllocError>
+    ensures opening { IfOk result (λ controller. BeginsWith book controller) }
+{
+    let site = book.site().clone()?;
+    let view = Noting::new(alloc, Desk::new(alloc, book)?);
+    Ok(Controller::new(alloc, view, site))
+}
+
 /// The same of the peer's site, where there is one.
 fn fresh_peer<A: Allocator + Copy>(
     alloc: A,
@@ -53,7 +70,9 @@ fn fresh_peer<A: Allocator + Copy>(
 }
 
 /// A controller's book.
-fn book_of<A: Allocator + Copy>(controller: &Controller<Noting<A>, A>) -> &Book<A> {
+fn book_of<A: Allocator + Copy>(controller: &Controller<Noting<A>, A>) -> &Book<A>
+    ensures book { result.now ≡ controller.now.0.desk.book }
+{
     controller.view().desk().book()
 }
 
@@ -72,6 +91,39 @@ impl<A: Allocator + Copy> Controllers<A> {
             first: fresh(alloc, site)?,
             peer: fresh_peer(alloc, peer)?,
         })
+    }
+
+    /// One controller, over a book, which was given nothing yet.
+    pub(crate) fn over(alloc: A, book: Book<A>) -> Result<Controllers<A>, AllocError>
+        ensures opening { IfOk result (λ all. BeginsWith book all.first) }
+        ensures peer { IfOk result (λ all. is_some all.peer ≡ false) }
+    {
+        Ok(Controllers {
+            first: over(alloc, book)?,
+            peer: None,
+        })
+    }
+
+    /// The book of the first.
+    pub fn first_book(&self) -> &Book<A>
+        ensures book { result.now ≡ self.now.first.0.desk.book }
+    {
+        book_of(&self.first)
+    }
+
+    /// How many events the first asked of its desk, since that began.
+    pub fn first_entries(&self) -> usize
+        ensures entries { result ≡ length self.now.first.0.desk.history }
+    {
+        self.first.view().desk().len()
+    }
+
+    /// The desk of the first begins anew with today's book. Where memory is refused, nothing changes.
+    pub(crate) fn begin_anew(&mut self) -> Result<(), AllocError>
+        ensures anew { OnOk result (IsAnewAt self.old.first self.new.first) }
+        ensures peer { self.new.peer ≡ self.old.peer }
+    {
+        self.first.begin_anew()
     }
 
     /// Whether the controller of this side is there.
@@ -120,6 +172,45 @@ impl<A: Allocator + Copy> Controllers<A> {
                 // asked for where there is one alone
                 None => unreachable!(),
             },
+        }
+    }
+
+    /// The desk of a controller that is there.
+    fn desk(&self, side: Side) -> Option<&Desk<A>>
+        ensures { option_map (λ desk. desk.now) result ≡
+            option_map (λ s. s.0.desk) (slice_get (positions_of self.now) (number_of side)) }
+    {
+        match side {
+            Side::First => Some(self.first.view().desk()),
+            Side::Peer => match &self.peer {
+                Some(peer) => Some(peer.view().desk()),
+                None => None,
+            },
+        }
+    }
+
+    /// The inputs that a line asks the book of a controller that is there, as it is now; or why there are none.
+    pub(crate) fn inputs_asked(&self, alloc: A, side: Side, asked: Asked) -> Met<Vec<Inbound<A>, A>>
+        requires there { is_there (is_some self.now.peer) side ≡ true }
+        ensures inputs { IfOk result (λ found. IfOk found (λ inputs. (s : Position) →
+            slice_get (positions_of self.now) (number_of side) ≡ Some s →
+            AreAsked s.0.desk asked inputs.items)) }
+        ensures unmet { IfOk result (λ found. OnErr found ((s : Position) →
+            slice_get (positions_of self.now) (number_of side) ≡ Some s →
+            AreAsked {A = A} s.0.desk asked [])) }
+    {
+        match self.desk(side) {
+            Some(desk) => inputs_asked(alloc, desk, asked),
+            // asked for where there is one alone
+            None => unreachable!(),
+        }
+    }
+
+    /// The channel of the mobile of a call, as it is now; or why there is none.
+    pub(crate) fn mobile_channel(&self, side: Side, call: u16) -> Met<ChanId> {
+        match self.desk(side) {
+            Some(desk) => mobile_channel(desk, call),
+            None => Ok(Err(Unmet::NoCall(call))),
         }
     }
 

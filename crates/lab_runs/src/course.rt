@@ -1,9 +1,9 @@
 //! The course of a script: one controller or two on one thread, and the simulators around them.
-ghost use Rattle.std.specs.Prelude.{◌≡◌, [], ◌∷◌, ◌||◌, true, false, is_some, option_map, IfOk, OnOk};
+ghost use Rattle.std.specs.Prelude.{◌≡◌, [], ◌∷◌, ◌||◌, true, false, is_some, map, option_map, IfOk, OnOk};
 ghost use Rattle.lab_script.specs.Sides.{is_there};
 ghost use Rattle.lab_script.specs.Script.{AreThere, is_item_there};
-ghost use Rattle.lab_runs.specs.Turns.{listed, inputs_in, is_attach};
-ghost use Rattle.lab_runs.specs.Course.{Went, AreOpenings, positions_of, has_peer, has_simulators, option_list};
+ghost use Rattle.lab_runs.specs.Turns.{listed, is_attach};
+ghost use Rattle.lab_runs.specs.Course.{Went, Follows, BeginsWith, IsAnewAt, AreOpenings, positions_of, has_peer, has_simulators, option_list};
 
 use crate::controllers::Controllers;
 use crate::listener::Listener;
@@ -11,10 +11,12 @@ use crate::run::LabFault;
 use crate::simulators::Simulators;
 use crate::turn::{Answer, Source, Turn, TurnFault};
 use crate::waiting::{Arrival, Waiting};
-use bts_model::Setting;
+use bts_model::{Act, Habit, Setting};
 use cell_table::Site;
 use ho_procedure::exchange::Inbound;
+use lab_script::asked::Asked;
 use lab_script::script::{Given, Item, Side};
+use radio_book::book::Book;
 use std::alloc::{AllocError, Allocator, Global};
 use std::collections::VecDeque;
 use std::sync::Arc;
@@ -79,6 +81,31 @@ impl<A: Allocator + Copy> Course<A> {
         })
     }
 
+    /// One controller over a book, which was given nothing yet.
+    pub fn over(alloc: A, book: Book<A>) -> Result<Course<A>, AllocError>
+        ensures opening { IfOk result (λ course. BeginsWith book course.controllers.first) }
+        ensures peer { IfOk result (λ course. has_peer course ≡ false) }
+        ensures sim { IfOk result (λ course. has_simulators course ≡ false) }
+    {
+        let site = book.site().clone()?;
+        Ok(Course {
+            controllers: Controllers::over(alloc, book)?,
+            sites: sites_of(alloc, site, None)?,
+            simulators: None,
+            turns: Vec::new(alloc),
+            alloc,
+        })
+    }
+
+    /// The desk of the first controller begins anew with today's book. Where memory is refused, no desk changes.
+    pub fn begin_anew(&mut self) -> Result<(), AllocError>
+        ensures anew { OnOk result (IsAnewAt self.old.controllers.first self.new.controllers.first) }
+        ensures peer { self.new.controllers.peer ≡ self.old.controllers.peer }
+        ensures sim { has_simulators self.new ≡ has_simulators self.old }
+    {
+        self.controllers.begin_anew()
+    }
+
     /// Whether simulators are attached.
     pub fn has_simulators(&self) -> bool
         ensures attached { result ≡ has_simulators self.now }
@@ -96,6 +123,64 @@ impl<A: Allocator + Copy> Course<A> {
         }
         self.simulators = Some(Simulators::new(self.alloc, self.sites.as_slice())?);
         Ok(())
+    }
+
+    /// The same of the mobile of a call, on the channel that this has now.
+    fn set_mobile<L: Listener<A>>(
+        &mut self,
+        side: Side,
+        call: u16,
+        habit: Habit,
+        waiting: &mut Waiting<A>,
+        listener: &mut L,
+    ) -> Result<(), LabFault>
+        ensures went { OnOk result (Went [] self.old self.new) }
+        ensures sim { OnOk result (has_simulators self.new ≡ has_simulators self.old) }
+    {
+        match self.controllers.mobile_channel(side, call)? {
+            Ok(chan) => {
+                let setting = Setting::of(side.number(), chan, Act::Mobile(habit));
+                Ok(self.set(setting, waiting)?)
+            }
+            Err(unmet) => listener.hear_unmet(unmet),
+        }
+    }
+
+    /// A controller that is there handles these inputs of a line, one after the other.
+    fn handle_all<L: Listener<A>>(
+        &mut self,
+        side: Side,
+        inputs: Vec<Inbound<A>, A>,
+        waiting: &mut Waiting<A>,
+        listener: &mut L,
+    ) -> Result<(), LabFault>
+        requires there { is_there (has_peer self.old) side ≡ true }
+        ensures went { OnOk result (Went (map (λ input. (side, input)) inputs.items) self.old self.new) }
+        ensures sim { OnOk result (has_simulators self.new ≡ has_simulators self.old) }
+    {
+        for input in inputs {
+            self.handle(side, Source::Script, input, waiting, listener)?;
+        }
+        Ok(())
+    }
+
+    /// A controller that is there handles what a line asks its book, as that is now.
+    fn ask<L: Listener<A>>(
+        &mut self,
+        side: Side,
+        asked: Asked,
+        waiting: &mut Waiting<A>,
+        listener: &mut L,
+    ) -> Result<(), LabFault>
+        requires there { is_there (has_peer self.old) side ≡ true }
+        ensures follows { OnOk result (Follows (record { side = side; given = Given.Ask asked } ∷ [])
+            self.old self.new) }
+        ensures sim { OnOk result (has_simulators self.new ≡ has_simulators self.old) }
+    {
+        match self.controllers.inputs_asked(self.alloc, side, asked)? {
+            Ok(inputs) => self.handle_all(side, inputs, waiting, listener),
+            Err(unmet) => listener.hear_unmet(unmet),
+        }
     }
 
     /// Asks something of a simulated station or of a mobile. What is sent then waits.
@@ -197,16 +282,21 @@ impl<A: Allocator + Copy> Course<A> {
         listener: &mut L,
     ) -> Result<(), LabFault>
         requires there { is_item_there (has_peer self.old) item ≡ true }
-        ensures went { OnOk result (Went (inputs_in (item ∷ [])) self.old self.new) }
+        ensures follows { OnOk result (Follows (item ∷ []) self.old self.new) }
         ensures sim { OnOk result (has_simulators self.new ≡
             is_attach item.given || has_simulators self.old) }
     {
+        listener.hear_item()?;
         let Item { side, given } = item;
         match given {
             Given::Input(input) => self.handle(side, Source::Script, input, waiting, listener),
             Given::Attach => Ok(self.attach()?),
             Given::Set(setting) => Ok(self.set(setting, waiting)?),
             Given::HangUp(call) => Ok(self.hang_up(side, call, waiting)?),
+            Given::Ask(asked) => self.ask(side, asked, waiting, listener),
+            Given::MobileOf { call, habit } => {
+                self.set_mobile(side, call, habit, waiting, listener)
+            }
         }
     }
 
@@ -217,7 +307,7 @@ impl<A: Allocator + Copy> Course<A> {
         listener: &mut L,
     ) -> Result<(), LabFault>
         requires there { is_item_there (has_peer self.old) item ≡ true }
-        ensures went { OnOk result (Went (inputs_in (item ∷ [])) self.old self.new) }
+        ensures follows { OnOk result (Follows (item ∷ []) self.old self.new) }
         ensures sim { OnOk result (has_simulators self.new ≡
             is_attach item.given || has_simulators self.old) }
     {
@@ -233,7 +323,7 @@ impl<A: Allocator + Copy> Course<A> {
         listener: &mut L,
     ) -> Result<(), LabFault>
         requires there { AreThere (has_peer self.old) items.items }
-        ensures { OnOk result (Went (inputs_in items.items) self.old self.new) }
+        ensures { OnOk result (Follows items.items self.old self.new) }
     {
         let mut waiting = VecDeque::new(self.alloc);
         for item in items {

@@ -1,4 +1,5 @@
 //! Who hears what comes of a script, as it comes; and one that prints it.
+use crate::asked::Unmet;
 use crate::run::LabFault;
 use crate::turn::{Answer, Turn};
 use cell_table::SiteFault;
@@ -13,6 +14,16 @@ use trace_text::trace::{
 /// Who hears what comes of a script: what comes of each input, in their order, and what the books hold at the end; or that
 /// nothing is run, and why.
 pub trait Listener<A: Allocator + Copy> {
+    /// Something that a line gives begins: what is heard up to the next comes of it.
+    fn hear_item(&mut self) -> Result<(), LabFault> {
+        Ok(())
+    }
+
+    /// Why nothing comes of what a line asks its controller's book. Who tells nobody needn't hear it.
+    fn hear_unmet(&mut self, _unmet: Unmet) -> Result<(), LabFault> {
+        Ok(())
+    }
+
     /// What came of an input; the controller's mark, and its book as it is now.
     fn hear_turn(&mut self, mark: Mark, turn: &Turn<A>, book: &Book<A>) -> Result<(), LabFault>;
 

@@ -3,7 +3,6 @@ ghost use Rattle.std.specs.Prelude.{◌≡◌, ◌≢◌, ◌⊎◌, ◌∷◌, 
 ghost use Rattle.cell_table.specs.SiteFile.{described_site, IsBlankFile};
 ghost use Rattle.cell_table.specs.declared.fault.Key.TheVariants.{Handover};
 ghost use Rattle.lab_script.specs.Script.{first_unreadable, items_of, AreThere};
-ghost use Rattle.lab_runs.specs.Turns.{inputs_in};
 ghost use Rattle.lab_runs.specs.Course.{Played, IsPlayed, IsRunOf, AreOpenings, positions_of, has_peer, has_simulators, option_list};
 ghost use Rattle.lab_runs.specs.Sites.{views_of, texts_of};
 ghost use Rattle.lab_runs.specs.Statuses.{status_of, status_after, exit_status_of};
@@ -160,8 +159,9 @@ pub fn script_items<A: Allocator + Copy, L: Listener<A>>(
 /// Runs a script over sites that were read, tells a listener what comes of it, and hands out what came of each input. Where a
 /// line of the script can't be read there is no run, and the listener is told that line's number (see [`lab_run`]).
 ///
-/// The run's turns are the script's inputs in their order, with what simulators sent between them; each was handled by the
-/// controller that it is for as the procedure says, from empty books on to the controllers that the run ends with.
+/// The run's turns are the script's inputs in their order, with what simulators sent between them; what a line asks its
+/// controller's book is found by that as it is when the line is played. Each was handled by the controller that it is for as the
+/// procedure says, from empty books on to the controllers that the run ends with.
 ///
 /// `NoMemory`: memory was refused; then every line of the script can be read. `Write`: the listener couldn't write. After
 /// either the listener was told what came before.
@@ -174,7 +174,7 @@ pub fn play<A: Allocator + Copy, L: Listener<A>>(
     ensures read { IfOk result (λ run. IsSome run →
         first_unreadable (is_some sites.peer) script.now ≡ None) }
     ensures ran { IfOk result (λ run. IfSome run
-        (λ run. IsRunOf (views_of sites) (inputs_in (items_of script.now)) run)) }
+        (λ run. IsRunOf (views_of sites) (items_of script.now) run)) }
     ensures refused { IfOk result (λ run. run ≡ None →
         IsSome (first_unreadable (is_some sites.peer) script.now)) }
     ensures memory { result ≡ Err LabFault.NoMemory →

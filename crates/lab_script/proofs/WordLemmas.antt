@@ -1,6 +1,7 @@
 -- Facts of the words and numbers of a line.
-use Rattle.std.proofs.Common.{◌≡◌, ◌≢◌, ℕ, ◌<◌, ◌^◌, ◌%◌, ◌∷◌, nat_lt, List, [], Bool, true, false, Option, Some, None, Result, Ok, Err, refl, sym, ap, ◌∙◌, arith, rules, length, is_some, option_map, ◌==◌, Bor, MatchOption}
+use Rattle.std.proofs.Common.{◌≡◌, ◌≢◌, ℕ, ◌<◌, ◌^◌, ◌%◌, ◌∷◌, nat_lt, List, [], Bool, true, false, Option, Some, None, Result, Ok, Err, refl, sym, ap, ◌∙◌, arith, rules, length, take, is_some, option_map, ◌==◌, Bor, MatchOption}
 use Rattle.std.specs.Char.{is_ascii_digit, is_ascii_hexdigit}
+use Rattle.std.proofs.Math.Seq.{take-length}
 use Rattle.std.specs.List.{list_all, onto_first, position_or_len, before_first, after_first}
 use Rattle.std.specs.Result.{result_ok}
 use Rattle.std.specs.Str.Parse.{digits_value, ParsesUnsigned}
@@ -11,7 +12,7 @@ use Rattle.std.proofs.lemmas.Str.Parse.{IsNumeralModel, numerals_by_value, parse
 use Rattle.hex.proofs.HexLemmas.{decode_of-digits, decode_of-ok}
 use Rattle.hex.specs.declared.error.FromHexError.{FromHexError}
 use Rattle.hex.specs.Hex.{decode_of, is_hex_digit}
-use Rattle.lab_script.specs.Words.{words_of, number_below, octets_of, is_slash, around_slash}
+use Rattle.lab_script.specs.Words.{words_of, first_word, behind_word, is_space, number_below, octets_of, is_slash, around_slash}
 
 -- a text of digits alone is a numeral
 numerals : IsNumeralModel (λ ds. list_all is_ascii_digit ds ≡ true) (digits_value 10)
@@ -67,6 +68,23 @@ pub cut_words : (text : List ℕ) (r : Option (Bor (List ℕ) × Bor (List ℕ))
     → MatchOption r (words_of text ≡ text ∷ []) (λ x. words_of text ≡ x.0.now ∷ words_of x.1.now)
 cut_words text None h = uncut text h
 cut_words text (Some x) h = slice_split_first (λ b. b == 32) text 0 h.0 ∙ rw (h.1, h.2) refl
+
+-- its first word, and what stands behind that
+pub cut_first : (text : List ℕ) (r : Option (Bor (List ℕ) × Bor (List ℕ)))
+    → MatchOption r (position_or_len (λ b. b == 32) text ≡ length text) (λ x. (position_or_len (λ b. b == 32) text < length text) × (x.0.now ≡ before_first (λ b. b == 32) text) × (x.1.now ≡ after_first (λ b. b == 32) text))
+    → MatchOption r (text ≡ first_word text) (λ x. x.0.now ≡ first_word text)
+cut_first text None h = sym (ap (λ n. take n text) h ∙ take-length text)
+cut_first text (Some x) h = h.1
+
+pub cut_rest : (text : List ℕ) (r : Option (Bor (List ℕ) × Bor (List ℕ)))
+    → MatchOption r (position_or_len (λ b. b == 32) text ≡ length text) (λ x. (position_or_len (λ b. b == 32) text < length text) × (x.0.now ≡ before_first (λ b. b == 32) text) × (x.1.now ≡ after_first (λ b. b == 32) text))
+    → option_map (λ x. x.1.now) r ≡ behind_word text
+cut_rest text None h =
+    let past : nat_lt (position_or_len is_space text) (length text) ≡ false = grind (arith, h) in
+    rw past refl
+cut_rest text (Some x) h =
+    let within : nat_lt (position_or_len is_space text) (length text) ≡ true = (Decides-ltb (position_or_len is_space text) (length text)).1 h.0 in
+    rw (within, h.2) refl
 
 -- the words of a text, by how it is cut at its first blank
 abbrev pub Cut : List ℕ → Option (Bor (List ℕ) × Bor (List ℕ)) → Type 0

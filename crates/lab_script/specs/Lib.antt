@@ -1,4 +1,5 @@
 pub mod Words
+pub mod Reports
 pub mod Sides
 pub mod Forms
 pub mod Values

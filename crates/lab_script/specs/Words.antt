@@ -1,5 +1,6 @@
 -- The words of a line, and what each says. A text is the list of its bytes.
-use Rattle.std.specs.Prelude.{ℕ, ◌==◌, ◌&&◌, Bool, nat_lt, if◌then◌else◌, List, length, codes, Option, Some, None, option_and_then, [], bytes_eq}
+use Rattle.std.specs.Prelude.{ℕ, ◌==◌, ◌&&◌, Bool, false, not, nat_lt, if◌then◌else◌, List, length, codes, Option, Some, None, is_some, option_map, option_and_then, [], bytes_eq}
+use Rattle.std.specs.Option.{option_or}
 use Rattle.std.specs.List.{slice_split, list_all, position_or_len, before_first, after_first}
 use Rattle.std.specs.Char.{is_ascii_digit}
 use Rattle.std.specs.Result.{result_ok}
@@ -11,6 +12,14 @@ use Rattle.timeslots.specs.declared.Rate.{Rate}
 use Rattle.timeslots.specs.declared.Rate.TheVariants as rate
 use Rattle.attempt_journal.specs.declared.Timer.{Timer}
 use Rattle.attempt_journal.specs.declared.Timer.TheVariants.{T3103, T7, T8}
+use Rattle.encoded_messages.specs.A as a
+use Rattle.encoded_messages.specs.Abis as abis
+use Rattle.bts_model.specs.declared.answer.Answer.{Answer}
+use Rattle.bts_model.specs.declared.answer.Answer.TheVariants as answer
+use Rattle.bts_model.specs.declared.setting.Held.{Held}
+use Rattle.bts_model.specs.declared.setting.Held.TheVariants as held
+use Rattle.lab_script.specs.declared.asked.Whom.{Whom}
+use Rattle.lab_script.specs.declared.asked.Whom.TheVariants.{Call, All}
 use Rattle.bts_model.specs.declared.setting.Habit.{Habit}
 use Rattle.bts_model.specs.declared.setting.Habit.TheVariants.{Arrive, Return, Vanish}
 
@@ -22,6 +31,32 @@ words_of text = slice_split (λ b. b == 32) text
 abbrev pub words_left : Option (List ℕ) → List (List ℕ)
 words_left None = []
 words_left (Some text) = words_of text
+
+-- the first word of a text, and what stands behind its blank, where it has one
+abbrev pub is_space : ℕ → Bool
+is_space b = b == 32
+
+abbrev pub first_word : List ℕ → List ℕ
+first_word text = before_first is_space text
+
+abbrev pub behind_word : List ℕ → Option (List ℕ)
+behind_word text = if nat_lt (position_or_len is_space text) (length text) then Some (after_first is_space text) else None
+
+-- what stands behind the first word of what is left of a line
+abbrev pub behind_left : Option (List ℕ) → Option (List ℕ)
+behind_left rest = option_and_then behind_word rest
+
+-- two words are left, of which the second is no number: a call, and what its mobile does
+abbrev pub is_call_and : Option (List ℕ) → Bool
+is_call_and None = false
+is_call_and (Some second) = not (is_some (behind_word second)) && not (list_all is_ascii_digit second)
+
+abbrev pub is_of_call : Option (List ℕ) → Bool
+is_of_call rest = is_call_and (behind_left rest)
+
+-- four words or more are left
+abbrev pub has_fourth : Option (List ℕ) → Bool
+has_fourth rest = is_some (behind_left (behind_left (behind_left rest)))
 
 -- one decimal digit or more, and nothing else
 abbrev pub is_number : List ℕ → Bool
@@ -76,3 +111,30 @@ unless_none n = if n == 0 then None else Some n
 
 abbrev pub count_of : List ℕ → Option ℕ
 count_of text = option_and_then unless_none (number_below 256 text)
+
+-- whose mobile reports
+abbrev pub whom_of : List ℕ → Option Whom
+whom_of text = if bytes_eq text (codes "all") then Some All else option_map Call (number_below 65536 text)
+
+-- what a hold keeps back that names it
+abbrev pub held_of : List ℕ → Option Held
+held_of text = if bytes_eq text (codes "detection") then Some held.Detection else if bytes_eq text (codes "complete") then Some held.Complete else None
+
+-- what a station says of a channel, by its word
+abbrev pub answer_of : List ℕ → Option Answer
+answer_of text =
+    if bytes_eq text (codes "ack") then Some answer.ActivationAck
+    else if bytes_eq text (codes "nack") then Some answer.ActivationNack
+    else if bytes_eq text (codes "detect") then Some answer.Detection
+    else if bytes_eq text (codes "complete") then Some answer.Complete
+    else if bytes_eq text (codes "failure") then Some answer.Failure
+    else if bytes_eq text (codes "released") then Some answer.ReleaseAck
+    else None
+
+-- the octets of the message that a text says on Abis: in hexadecimal, or else in words
+abbrev pub abis_octets : List ℕ → Option (List ℕ)
+abis_octets text = option_or (octets_of text) (abis.octets_said text)
+
+-- and on A
+abbrev pub a_octets : List ℕ → Option (List ℕ)
+a_octets text = option_or (octets_of text) (a.octets_said text)

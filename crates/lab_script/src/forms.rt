@@ -1,9 +1,13 @@
 //! The forms of lines: what the first word of a line is, and those behind it.
-ghost use Rattle.std.specs.Prelude.{◌≡◌, Some};
+ghost use Rattle.std.specs.Prelude.{◌≡◌, Some, option_map};
 ghost use Rattle.lab_script.specs.Forms as said;
 
+use crate::report::report_of;
 pub use crate::words::cut_word;
-use crate::words::{call_number, count, habit, is_octets, octet, rate, timer, timeslot};
+use crate::words::{
+    answer, call_number, count, habit, has_fourth, held, is_of_call, is_on_a, is_on_abis, octet,
+    rate, timer, timeslot, whom,
+};
 use std::fmt;
 
 /// What a word of a line is.
@@ -17,8 +21,10 @@ pub enum Slot {
     Trx,
     /// The number of a timeslot, 0 to 7, and `/0` or `/1` behind it for a half.
     Timeslot,
-    /// The octets of a message in hexadecimal.
-    Octets,
+    /// A message on Abis: its octets in hexadecimal, or in words. It takes the rest of the line.
+    OnAbis,
+    /// A message on A, as well.
+    OnA,
     /// The name of a timer.
     Timer,
     /// The name of a rate.
@@ -27,6 +33,14 @@ pub enum Slot {
     Habit,
     /// A number of octets, 1 to 255.
     Count,
+    /// The number of a call, or `all`.
+    Whom,
+    /// What a station keeps back of a mobile that arrives.
+    Held,
+    /// What a station says of a channel.
+    Answer,
+    /// What is reported. It takes the rest of the line.
+    Fields,
 }
 
 impl Slot {
@@ -37,15 +51,38 @@ impl Slot {
             Slot::Cell => "CELL",
             Slot::Trx => "TRX",
             Slot::Timeslot => "TN",
-            Slot::Octets => "HEX",
+            Slot::OnAbis | Slot::OnA => "HEX",
             Slot::Timer => "TIMER",
             Slot::Rate => "RATE",
             Slot::Habit => "HABIT",
             Slot::Count => "N",
+            Slot::Whom => "CALL",
+            Slot::Held | Slot::Answer => "ANSWER",
+            Slot::Fields => "FIELD",
         }
     }
 
-    /// Whether a word may stand in this slot.
+    /// Whether it takes the rest of the line.
+    pub fn takes_rest(self) -> bool
+        ensures rest { result ≡ said.takes_rest self }
+    {
+        match self {
+            Slot::OnAbis | Slot::OnA | Slot::Fields => true,
+            Slot::Call
+            | Slot::Cell
+            | Slot::Trx
+            | Slot::Timeslot
+            | Slot::Timer
+            | Slot::Rate
+            | Slot::Habit
+            | Slot::Count
+            | Slot::Whom
+            | Slot::Held
+            | Slot::Answer => false,
+        }
+    }
+
+    /// Whether a word, or the rest of a line, may stand in this slot.
     pub fn fits(self, word: &str) -> bool
         ensures fits { result ≡ said.fits self word.now }
     {
@@ -54,11 +91,16 @@ impl Slot {
             Slot::Cell => octet(word).is_some(),
             Slot::Trx => octet(word).is_some(),
             Slot::Timeslot => timeslot(word).is_some(),
-            Slot::Octets => is_octets(word),
+            Slot::OnAbis => is_on_abis(word),
+            Slot::OnA => is_on_a(word),
             Slot::Timer => timer(word).is_some(),
             Slot::Rate => rate(word).is_some(),
             Slot::Habit => habit(word).is_some(),
             Slot::Count => count(word).is_some(),
+            Slot::Whom => whom(word).is_some(),
+            Slot::Held => held(word).is_some(),
+            Slot::Answer => answer(word).is_some(),
+            Slot::Fields => report_of(word).is_some(),
         }
     }
 }
@@ -82,6 +124,14 @@ pub enum Form {
     Double,
     Cut,
     HangUp,
+    /// `report`: what mobiles report of the channels that they are on.
+    Report,
+    /// `answer`: what a station says of the channel of a call.
+    Answer,
+    /// `hold` with the answer that is kept back.
+    HoldAnswer,
+    /// `mobile` with a call.
+    MobileOf,
 }
 
 /// The forms of lines that an operator or a timer gives, and of messages.
@@ -94,6 +144,8 @@ pub const INPUTS: &[Form] = &[
     Form::Expire,
     Form::Abis,
     Form::A,
+    Form::Report,
+    Form::Answer,
 ];
 
 /// The forms of lines that ask something of what is simulated.
@@ -125,7 +177,7 @@ fn simulated_form(keyword: &str) -> Option<Form>
     }
 }
 
-/// The form of the lines that begin with this word.
+/// The form of the lines that begin with this word; of two the first.
 #[tactic(auto, unfolding(crate::specs::Forms::form_named))]
 pub fn form_named(keyword: &str) -> Option<Form>
     ensures form { result ≡ said.form_named keyword.now }
@@ -136,12 +188,30 @@ pub fn form_named(keyword: &str) -> Option<Form>
     }
 }
 
+/// The form of the lines that begin with this word, and go on so.
+pub fn form_of(keyword: &str, rest: Option<&str>) -> Option<Form>
+    ensures form { result ≡ said.form_of keyword.now (option_map (λ text. text.now) rest.entry) }
+{
+    Some(form_named(keyword)?.going_on(rest))
+}
+
 impl Form {
-    /// The first word, by which the form is found again.
+    /// The form of a line that goes on so, of two that begin with one word.
+    fn going_on(self, rest: Option<&str>) -> Form
+        ensures { result ≡ said.going_on (option_map (λ text. text.now) rest.entry) self }
+    {
+        match self {
+            Form::Hold if has_fourth(rest) => Form::HoldAnswer,
+            Form::Mobile if is_of_call(rest) => Form::MobileOf,
+            form => form,
+        }
+    }
+
+    /// The first word, by which the form is found again, or the other that begins with it.
     #[tactic(auto, unfolding(crate::specs::Forms::form_named))]
     pub fn keyword(self) -> &'static str
         ensures keyword { result.now ≡ said.keyword self }
-        ensures found { said.form_named (said.keyword self) ≡ Some self }
+        ensures found { said.form_named (said.keyword self) ≡ Some (said.first_with self) }
     {
         match self {
             Form::Open => "open",
@@ -154,12 +224,14 @@ impl Form {
             Form::A => "a",
             Form::Sim => "sim",
             Form::Refuse => "refuse",
-            Form::Hold => "hold",
+            Form::Hold | Form::HoldAnswer => "hold",
             Form::Let => "let",
-            Form::Mobile => "mobile",
+            Form::Mobile | Form::MobileOf => "mobile",
             Form::Double => "double",
             Form::Cut => "cut",
             Form::HangUp => "hangup",
+            Form::Report => "report",
+            Form::Answer => "answer",
         }
     }
 
@@ -173,14 +245,18 @@ impl Form {
             Form::Handover => &[Slot::Call, Slot::Cell],
             Form::Undo | Form::Clear | Form::HangUp => &[Slot::Call],
             Form::Expire => &[Slot::Call, Slot::Timer],
-            Form::Abis => &[Slot::Cell, Slot::Trx, Slot::Octets],
-            Form::A => &[Slot::Call, Slot::Octets],
+            Form::Abis => &[Slot::Cell, Slot::Trx, Slot::OnAbis],
+            Form::A => &[Slot::Call, Slot::OnA],
             Form::Sim => &[],
             Form::Refuse | Form::Hold | Form::Let | Form::Double => {
                 &[Slot::Cell, Slot::Trx, Slot::Timeslot]
             }
             Form::Mobile => &[Slot::Cell, Slot::Trx, Slot::Timeslot, Slot::Habit],
             Form::Cut => &[Slot::Cell, Slot::Trx, Slot::Timeslot, Slot::Count],
+            Form::Report => &[Slot::Whom, Slot::Fields],
+            Form::Answer => &[Slot::Call, Slot::Answer],
+            Form::HoldAnswer => &[Slot::Cell, Slot::Trx, Slot::Timeslot, Slot::Held],
+            Form::MobileOf => &[Slot::Call, Slot::Habit],
         }
     }
 
@@ -195,7 +271,9 @@ impl Form {
             | Form::Mobile
             | Form::Double
             | Form::Cut
-            | Form::HangUp => true,
+            | Form::HangUp
+            | Form::HoldAnswer
+            | Form::MobileOf => true,
             Form::Open
             | Form::Seize
             | Form::Handover
@@ -204,7 +282,9 @@ impl Form {
             | Form::Expire
             | Form::Abis
             | Form::A
-            | Form::Sim => false,
+            | Form::Sim
+            | Form::Report
+            | Form::Answer => false,
         }
     }
 }

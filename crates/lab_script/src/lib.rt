@@ -2,7 +2,9 @@
 //! switching centre.
 #![tactic(auto)]
 
+pub mod asked;
 pub mod forms;
+pub mod report;
 mod said;
 pub mod script;
 mod side;

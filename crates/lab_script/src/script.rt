@@ -9,11 +9,12 @@ ghost use Rattle.std.specs.Str.Lines.{strip_carriage_return};
 ghost use Rattle.lab_script.specs.Said as said_by;
 ghost use Rattle.lab_script.specs.Script as said;
 
+use crate::asked::Asked;
 use crate::said::{Said, line_said};
 pub use crate::side::{Side, cut_side, is_for_peer};
 pub use crate::words::is_octets;
-use crate::words::octets;
-use bts_model::Setting;
+use crate::words::{a_octets, abis_octets};
+use bts_model::{Habit, Setting};
 use ho_procedure::exchange::Inbound;
 use std::alloc::{AllocError, Allocator, Global};
 use thiserror::Error;
@@ -30,6 +31,10 @@ pub enum Given<A: Allocator = Global> {
     Set(Setting),
     /// The simulated switching centre hangs up this call of the controller.
     HangUp(u16),
+    /// Inputs that the controller's book says, as it is when the line is played.
+    Ask(Asked),
+    /// The habit of the mobile of this call of the controller, on the channel that it has when the line is played.
+    MobileOf { call: u16, habit: Habit },
 }
 
 /// What a line of a script gives.
@@ -61,33 +66,35 @@ impl From<AllocError> for ScriptFault {
     }
 }
 
-/// What a line says with these octets in hexadecimal.
+/// What a line says with this message.
 fn give<A: Allocator + Copy>(
     alloc: A,
     said: Said,
-    hex: &str,
+    message: &str,
 ) -> Result<Option<Given<A>>, AllocError>
-    ensures value { IfOk result (λ given. given ≡ said_by.given hex.now said) }
-    ensures memory { IsErr result → is_some (said_by.given {A = A} hex.now said) ≡ true }
+    ensures value { IfOk result (λ given. given ≡ said_by.given message.now said) }
+    ensures memory { IsErr result → is_some (said_by.given {A = A} message.now said) ≡ true }
 {
     match said {
         Said::Operator(line) => Ok(Some(Given::Input(Inbound::Operator(line)))),
         Said::Expiry { call, timer } => Ok(Some(Given::Input(Inbound::Expiry { call, timer }))),
-        Said::Abis { cell, trx } => match octets(alloc, hex)? {
+        Said::Abis { cell, trx } => match abis_octets(alloc, message)? {
             Some(bytes) => Ok(Some(Given::Input(Inbound::Abis { cell, trx, bytes }))),
             None => Ok(None),
         },
-        Said::A { call } => match octets(alloc, hex)? {
+        Said::A { call } => match a_octets(alloc, message)? {
             Some(bytes) => Ok(Some(Given::Input(Inbound::A { call, bytes }))),
             None => Ok(None),
         },
         Said::Set(setting) => Ok(Some(Given::Set(setting))),
         Said::HangUp(call) => Ok(Some(Given::HangUp(call))),
+        Said::Ask(asked) => Ok(Some(Given::Ask(asked))),
+        Said::MobileOf { call, habit } => Ok(Some(Given::MobileOf { call, habit })),
     }
 }
 
 /// Whether a line attaches the simulators.
-fn is_sim(line: &str) -> bool
+pub fn is_sim(line: &str) -> bool
     ensures { result ≡ said.is_sim line.now }
 {
     line == "sim"
@@ -102,7 +109,7 @@ fn given_by<A: Allocator + Copy>(alloc: A, line: &str) -> Result<Option<Given<A>
         return Ok(Some(Given::Attach));
     }
     match line_said(line) {
-        Some((said, hex)) => give(alloc, said, hex),
+        Some((said, message)) => give(alloc, said, message),
         None => Ok(None),
     }
 }
@@ -133,12 +140,12 @@ pub fn is_blank(line: &str) -> bool
     line.bytes().all(|byte| byte == b' ' || byte == b'\t')
 }
 
-/// Whether what a line says, with its octets in hexadecimal, can be given.
+/// Whether what a line says, with its message, can be given.
 fn is_given(said: Option<(Said, &str)>) -> bool
     ensures { result ≡ is_some (option_and_then (λ r. said_by.given {A = Unit} r.1.now r.0) said.entry) }
 {
     match said {
-        Some((said, hex)) => said.is_given(hex),
+        Some((said, message)) => said.is_given(message),
         None => false,
     }
 }

@@ -1,15 +1,17 @@
 //! What the words of a line say, slot by slot.
-ghost use Rattle.std.specs.Prelude.{◌≡◌, [], option_map};
-ghost use Rattle.lab_script.specs.Words.{words_left};
+ghost use Rattle.std.specs.Prelude.{◌≡◌, None, option_map};
 ghost use Rattle.lab_script.specs.Values as said;
 
+use crate::asked::Whom;
 use crate::forms::Slot;
-use crate::words::{call_number, count, cut_word, habit, octet, rate, timer, timeslot};
+use crate::words::{
+    answer, call_number, count, cut_word, habit, held, octet, rate, timer, timeslot, whom,
+};
 use attempt_journal::Timer;
-use bts_model::Habit;
+use bts_model::{Answer, Habit, Held};
 use channel_fsm::{ChanId, Rate, Sub};
 
-/// What the words of a line say, but for octets.
+/// What the words of a line say, but for what takes its rest.
 #[derive(Clone, Copy)]
 pub(crate) struct Values {
     pub(crate) call: Option<u16>,
@@ -20,6 +22,9 @@ pub(crate) struct Values {
     pub(crate) rate: Option<Rate>,
     pub(crate) habit: Option<Habit>,
     pub(crate) count: Option<u8>,
+    pub(crate) whom: Option<Whom>,
+    pub(crate) held: Option<Held>,
+    pub(crate) answer: Option<Answer>,
 }
 
 impl Values {
@@ -36,10 +41,14 @@ impl Values {
             rate: None,
             habit: None,
             count: None,
+            whom: None,
+            held: None,
+            answer: None,
         }
     }
 
-    /// The same, and what a word says in this slot; nothing where it doesn't fit there. Octets are kept elsewhere.
+    /// The same, and what a word says in this slot; nothing where it doesn't fit there. What takes the rest of a line is kept
+    /// elsewhere.
     fn put(self, slot: Slot, word: &str) -> Option<Values>
         ensures { result ≡ said.put slot word.now self }
     {
@@ -60,7 +69,7 @@ impl Values {
                 timeslot: Some(timeslot(word)?),
                 ..self
             }),
-            Slot::Octets => Some(self),
+            Slot::OnAbis | Slot::OnA | Slot::Fields => Some(self),
             Slot::Timer => Some(Values {
                 timer: Some(timer(word)?),
                 ..self
@@ -75,6 +84,18 @@ impl Values {
             }),
             Slot::Count => Some(Values {
                 count: Some(count(word)?),
+                ..self
+            }),
+            Slot::Whom => Some(Values {
+                whom: Some(whom(word)?),
+                ..self
+            }),
+            Slot::Held => Some(Values {
+                held: Some(held(word)?),
+                ..self
+            }),
+            Slot::Answer => Some(Values {
+                answer: Some(answer(word)?),
                 ..self
             }),
         }
@@ -94,61 +115,47 @@ impl Values {
     }
 }
 
-/// The octets in hexadecimal, where a word stands in their slot; else those so far.
-fn hex_in<'a>(slot: Slot, word: &'a str, hex: &'a str) -> &'a str
-    ensures { result.now ≡ said.hex_in slot word.now hex.now }
-{
-    match slot {
-        Slot::Octets => word,
-        Slot::Call
-        | Slot::Cell
-        | Slot::Trx
-        | Slot::Timeslot
-        | Slot::Timer
-        | Slot::Rate
-        | Slot::Habit
-        | Slot::Count => hex,
-    }
-}
-
-/// What the words that are left of a line say, and its octets, still in hexadecimal; nothing where a word doesn't fit its
-/// slot, is missing, or stands behind the last.
+/// What the words that are left of a line say, and what the last of them took with the rest of the line; nothing where a word
+/// doesn't fit its slot, is missing, or stands behind the last.
 fn filled<'a>(
     slots: &[Slot],
     rest: Option<&'a str>,
     values: Values,
-    hex: &'a str,
+    kept: &'a str,
 ) -> Option<(Values, &'a str)>
     ensures { option_map (λ r. (r.0, r.1.now)) result ≡ said.filled slots.now
-        (words_left (option_map (λ text. text.now) rest.entry)) values hex.now }
+        (option_map (λ text. text.now) rest.entry) values kept.now }
 {
     let Some(text) = rest else {
-        return none_left(slots, values, hex);
+        return none_left(slots, values, kept);
     };
-    let (word, rest) = cut_word(text);
     let [slot, slots @ ..] = slots else {
         return None;
     };
+    if slot.takes_rest() {
+        return none_left(slots, values, text);
+    }
+    let (word, rest) = cut_word(text);
     match values.put(*slot, word) {
-        Some(values) => filled(slots, rest, values, hex_in(*slot, word, hex)),
+        Some(values) => filled(slots, rest, values, kept),
         None => None,
     }
 }
 
 /// The same where no words are left.
-fn none_left<'a>(slots: &[Slot], values: Values, hex: &'a str) -> Option<(Values, &'a str)>
-    ensures { option_map (λ r. (r.0, r.1.now)) result ≡ said.filled slots.now [] values hex.now }
+fn none_left<'a>(slots: &[Slot], values: Values, kept: &'a str) -> Option<(Values, &'a str)>
+    ensures { option_map (λ r. (r.0, r.1.now)) result ≡ said.filled slots.now None values kept.now }
 {
     match slots {
-        [] => Some((values, hex)),
+        [] => Some((values, kept)),
         [_, ..] => None,
     }
 }
 
-/// What the words of a line behind its first say by these slots, and its octets, still in hexadecimal.
+/// What the words of a line behind its first say by these slots, and what the last of them took with the rest of the line.
 pub(crate) fn values_of<'a>(slots: &[Slot], rest: Option<&'a str>) -> Option<(Values, &'a str)>
     ensures { option_map (λ r. (r.0, r.1.now)) result ≡ said.values_of slots.now
-        (words_left (option_map (λ text. text.now) rest.entry)) }
+        (option_map (λ text. text.now) rest.entry) }
 {
     filled(slots, rest, Values::none(), "")
 }

@@ -1,12 +1,17 @@
 //! Words of lines: keywords, numbers, channels, octets.
-ghost use Rattle.std.specs.Prelude.{◌≡◌, ◌∷◌, [], MatchOption, is_some, option_map, IfOk, IsErr, true};
+ghost use Rattle.std.specs.Prelude.{◌≡◌, ◌∷◌, ◌<◌, [], MatchOption, is_some, option_map, IfOk, IfSome, IsErr, length, true};
 ghost use Rattle.std.specs.Char.{is_ascii_digit, is_ascii_hexdigit};
 ghost use Rattle.std.specs.List.{list_all};
+ghost use Rattle.encoded_messages.specs.A as a;
+ghost use Rattle.encoded_messages.specs.Abis as abis;
+ghost use Rattle.encoded_messages.specs.Words.{cut_at};
 ghost use Rattle.lab_script.specs.Words as said;
 
+use crate::asked::Whom;
 use attempt_journal::Timer;
-use bts_model::Habit;
+use bts_model::{Answer, Habit, Held};
 use channel_fsm::{Rate, Sub};
+use encoded_messages::{encode_a, encode_abis, says_a, says_abis};
 use rsl_messages::Octets;
 use std::alloc::{AllocError, Allocator};
 
@@ -14,6 +19,9 @@ use std::alloc::{AllocError, Allocator};
 pub fn cut_word(text: &str) -> (&str, Option<&str>)
     ensures words { said.words_of text.now ≡ result.0.now ∷
         said.words_left (option_map (λ rest. rest.now) result.1) }
+    ensures first { result.0.now ≡ said.first_word text.now }
+    ensures rest { option_map (λ rest. rest.now) result.1 ≡ said.behind_word text.now }
+    ensures less { IfSome result.1 (λ rest. length rest.now < length text.now) }
 {
     match text.split_once(' ') {
         Some((word, rest)) => (word, Some(rest)),
@@ -60,14 +68,42 @@ pub(crate) fn count(text: &str) -> Option<u8>
     }
 }
 
+/// The number that the digits of a text write, where it is below a limit.
+fn below(limit: u8, text: &str) -> Option<u8>
+    ensures { result ≡ said.number_below limit text.now }
+{
+    match octet(text) {
+        Some(number) if number < limit => Some(number),
+        _ => None,
+    }
+}
+
+/// The level from 0 to 63 that a text writes.
+pub(crate) fn level(text: &str) -> Option<u8>
+    ensures { result ≡ said.number_below 64 text.now }
+{
+    below(64, text)
+}
+
+/// The quality from 0 to 7 that a text writes.
+pub(crate) fn quality(text: &str) -> Option<u8>
+    ensures { result ≡ said.number_below 8 text.now }
+{
+    below(8, text)
+}
+
+/// The timing advance from 0 to 63 that a text writes.
+pub(crate) fn timing_advance(text: &str) -> Option<u8>
+    ensures { result ≡ said.number_below 64 text.now }
+{
+    below(64, text)
+}
+
 /// The number of a timeslot, 0 to 7, that the digits of a text write.
 fn timeslot_number(text: &str) -> Option<u8>
     ensures { result ≡ said.number_below 8 text.now }
 {
-    match octet(text) {
-        Some(tn) if tn < 8 => Some(tn),
-        _ => None,
-    }
+    below(8, text)
 }
 
 /// A text up to its first `/`, and what stands behind that; `None` where it has none.
@@ -75,6 +111,20 @@ fn around_slash(text: &str) -> Option<(&str, &str)>
     ensures { option_map (λ cut. (cut.0.now, cut.1.now)) result ≡ said.around_slash text.now }
 {
     text.split_once('/')
+}
+
+/// The same at its first `:`.
+pub(crate) fn around_colon(text: &str) -> Option<(&str, &str)>
+    ensures { option_map (λ cut. (cut.0.now, cut.1.now)) result ≡ cut_at 58 text.now }
+{
+    text.split_once(':')
+}
+
+/// And at its first `=`.
+pub(crate) fn around_equals(text: &str) -> Option<(&str, &str)>
+    ensures { option_map (λ cut. (cut.0.now, cut.1.now)) result ≡ cut_at 61 text.now }
+{
+    text.split_once('=')
 }
 
 /// The half of a timeslot that a text writes.
@@ -134,6 +184,69 @@ pub(crate) fn habit(text: &str) -> Option<Habit>
     }
 }
 
+/// Whose mobile reports: that of the call of a number, or of `all`.
+pub(crate) fn whom(text: &str) -> Option<Whom>
+    ensures { result ≡ said.whom_of text.now }
+{
+    if text == "all" {
+        Some(Whom::All)
+    } else {
+        Some(Whom::Call(call_number(text)?))
+    }
+}
+
+/// What a hold keeps back that names it.
+pub(crate) fn held(text: &str) -> Option<Held>
+    ensures { result ≡ said.held_of text.now }
+{
+    match text {
+        "detection" => Some(Held::Detection),
+        "complete" => Some(Held::Complete),
+        _ => None,
+    }
+}
+
+/// What a station says of a channel, by its word.
+pub(crate) fn answer(text: &str) -> Option<Answer>
+    ensures { result ≡ said.answer_of text.now }
+{
+    match text {
+        "ack" => Some(Answer::ActivationAck),
+        "nack" => Some(Answer::ActivationNack),
+        "detect" => Some(Answer::Detection),
+        "complete" => Some(Answer::Complete),
+        "failure" => Some(Answer::Failure),
+        "released" => Some(Answer::ReleaseAck),
+        _ => None,
+    }
+}
+
+/// What stands behind the first word of what is left of a line, where there is a blank.
+pub(crate) fn behind(rest: Option<&str>) -> Option<&str>
+    ensures { option_map (λ text. text.now) result ≡
+        said.behind_left (option_map (λ text. text.now) rest.entry) }
+{
+    let (_, behind) = cut_word(rest?);
+    behind
+}
+
+/// Whether what is left of a line is two words, of which the second is no number: a call, and what its mobile does.
+pub(crate) fn is_of_call(rest: Option<&str>) -> bool
+    ensures { result ≡ said.is_of_call (option_map (λ text. text.now) rest.entry) }
+{
+    match behind(rest) {
+        Some(second) => behind(Some(second)).is_none() && !is_digits(second),
+        None => false,
+    }
+}
+
+/// Whether what is left of a line has four words or more.
+pub(crate) fn has_fourth(rest: Option<&str>) -> bool
+    ensures { result ≡ said.has_fourth (option_map (λ text. text.now) rest.entry) }
+{
+    behind(behind(behind(rest))).is_some()
+}
+
 /// Whether the text has hexadecimal digits alone.
 fn is_hex_digits(text: &str) -> bool
     ensures { result ≡ list_all is_ascii_hexdigit text.now }
@@ -170,5 +283,85 @@ pub(crate) fn octets<A: Allocator + Copy>(
                 Ok(None)
             }
         }
+    }
+}
+
+/// Whether a text is the message of a line: its octets in hexadecimal, or on this link in words.
+pub(crate) fn is_on_abis(text: &str) -> bool
+    ensures { result ≡ is_some (said.abis_octets text.now) }
+{
+    is_octets(text) || says_abis(text)
+}
+
+/// The same on A.
+pub(crate) fn is_on_a(text: &str) -> bool
+    ensures { result ≡ is_some (said.a_octets text.now) }
+{
+    is_octets(text) || says_a(text)
+}
+
+/// The octets of the message on Abis that a text says in words; nothing where it says none. Only where it isn't written
+/// the text is looked at once more: one that says no message needs no memory.
+fn abis_in_words<A: Allocator + Copy>(alloc: A, text: &str) -> Result<Option<Octets<A>>, AllocError>
+    ensures value { IfOk result (λ octets. octets ≡ abis.octets_said text.now) }
+    ensures memory { IsErr result → is_some (abis.octets_said text.now) ≡ true }
+{
+    match encode_abis(alloc, text) {
+        Ok(octets) => Ok(Some(Octets::from_vec(octets))),
+        // a message is refused for want of memory alone
+        Err(_) => {
+            if says_abis(text) {
+                Err(AllocError)
+            } else {
+                Ok(None)
+            }
+        }
+    }
+}
+
+/// The octets of the message on A that a text says in words; nothing where it says none. Only where it isn't written
+/// the text is looked at once more: one that says no message needs no memory.
+fn a_in_words<A: Allocator + Copy>(alloc: A, text: &str) -> Result<Option<Octets<A>>, AllocError>
+    ensures value { IfOk result (λ octets. octets ≡ a.octets_said text.now) }
+    ensures memory { IsErr result → is_some (a.octets_said text.now) ≡ true }
+{
+    match encode_a(alloc, text) {
+        Ok(octets) => Ok(Some(Octets::from_vec(octets))),
+        // a message is refused for want of memory alone
+        Err(_) => {
+            if says_a(text) {
+                Err(AllocError)
+            } else {
+                Ok(None)
+            }
+        }
+    }
+}
+
+/// The octets of the message on Abis that a text says, in hexadecimal or in words; nothing where it says none.
+pub(crate) fn abis_octets<A: Allocator + Copy>(
+    alloc: A,
+    text: &str,
+) -> Result<Option<Octets<A>>, AllocError>
+    ensures value { IfOk result (λ octets. octets ≡ said.abis_octets text.now) }
+    ensures memory { IsErr result → is_some (said.abis_octets text.now) ≡ true }
+{
+    match octets(alloc, text)? {
+        Some(octets) => Ok(Some(octets)),
+        None => abis_in_words(alloc, text),
+    }
+}
+
+/// The same of a message on A.
+pub(crate) fn a_octets<A: Allocator + Copy>(
+    alloc: A,
+    text: &str,
+) -> Result<Option<Octets<A>>, AllocError>
+    ensures value { IfOk result (λ octets. octets ≡ said.a_octets text.now) }
+    ensures memory { IsErr result → is_some (said.a_octets text.now) ≡ true }
+{
+    match octets(alloc, text)? {
+        Some(octets) => Ok(Some(octets)),
+        None => a_in_words(alloc, text),
     }
 }

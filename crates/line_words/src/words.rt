@@ -165,7 +165,16 @@ pub fn print_ignored<A: Allocator, W: Write>(out: &mut W, input: &Inbound<A>) ->
     }
 }
 
-/// Prints that no row goes on with a message at the stage that its call is in, behind its words.
-pub fn print_out_of_stage<W: Write>(out: &mut W) -> io::Result<()> {
-    write!(out, "; ignored: this stage doesn't expect it")
+/// Prints that no row goes on with an input at the stage that its call is in, behind its words: of an operator's line or a timer,
+/// that nothing came of it, since the reply of the book says why.
+pub fn print_out_of_stage<A: Allocator, W: Write>(
+    out: &mut W,
+    input: &Inbound<A>,
+) -> io::Result<()> {
+    match input {
+        Inbound::Abis { .. } | Inbound::A { .. } => {
+            write!(out, "; ignored: this stage doesn't expect it")
+        }
+        Inbound::Expiry { .. } | Inbound::Operator(_) => write!(out, "; ignored: nothing changes"),
+    }
 }

@@ -9,3 +9,4 @@ mod text;
 
 pub use lab_script::forms::{Form, Slot};
 pub use reasons::{Fault, Reason, line_reason, script_reason};
+pub use text::LoneReason;

@@ -1,11 +1,13 @@
 //! Why a line can't be read.
-ghost use Rattle.std.specs.Prelude.{◌≡◌, [], option_map};
+ghost use Rattle.std.specs.Prelude.{◌≡◌, [], None, bytes_eq, option_map};
+ghost use Rattle.std.specs.List.{list_any};
 ghost use Rattle.std.specs.Str.Lines.{strip_carriage_return};
-ghost use Rattle.lab_script.specs.Words.{words_left};
 ghost use Rattle.script_reasons.specs.Reasons as said;
 
-use lab_script::forms::{Form, Slot, cut_word, form_named};
-use lab_script::script::{cut_side, is_blank, is_comment, is_for_peer, without_return};
+use encoded_messages::{A_FORMS, ABIS_FORMS, MessageForm, name_and_fields};
+use lab_script::forms::{Form, Slot, cut_word, form_of as form_by};
+use lab_script::report::{FieldsFault, fields_fault};
+use lab_script::script::{cut_side, is_blank, is_comment, is_for_peer, is_octets, without_return};
 
 /// What is wrong.
 #[derive(Clone, Copy, Debug, PartialEq, Eq)]
@@ -28,6 +30,16 @@ pub enum Fault {
     Missing(Slot, Form),
     /// The word stands behind the last of its line's form.
     Behind(Form),
+    /// The word is a field of no report, isn't as it may be there, or stands twice.
+    Field,
+    /// The level of the serving cell is missing in a report.
+    NoLevel,
+    /// The neighbours are missing in a report.
+    NoNeighbours,
+    /// The text has the name of a message on Abis, and says none: its fields are wrong.
+    OnAbis,
+    /// The same on A.
+    OnA,
     /// Nothing is wrong with the line itself: what it asks is of what is simulated, and no line before attaches that.
     NoSim(Form),
 }
@@ -52,7 +64,7 @@ fn without_word<'a>(fault: Fault) -> Reason<'a>
 /// What is missing of a line that has no further words.
 fn missing<'a>(form: Form, slots: &[Slot]) -> Option<Reason<'a>>
     ensures { option_map (λ reason. (reason.fault, reason.found.now)) result ≡
-        said.first_wrong form slots.now [] }
+        said.first_wrong form slots.now None }
 {
     match slots {
         [slot, ..] => Some(without_word(Fault::Missing(*slot, form))),
@@ -60,10 +72,108 @@ fn missing<'a>(form: Form, slots: &[Slot]) -> Option<Reason<'a>>
     }
 }
 
+/// Whether a name is that of one of some messages.
+fn is_named(forms: &[MessageForm<'static>], name: &str) -> bool
+    ensures { result ≡ list_any (λ form. bytes_eq form.name.now name.now) forms.now }
+{
+    forms.iter().any(|form| form.name == name)
+}
+
+/// Whether a text begins with the name of a message on Abis.
+fn has_abis_name(text: &str) -> bool
+    ensures { result ≡ said.has_abis_name text.now }
+{
+    let (name, _) = name_and_fields(text);
+    is_named(ABIS_FORMS, name)
+}
+
+/// The same on A.
+fn has_a_name(text: &str) -> bool
+    ensures { result ≡ said.has_a_name text.now }
+{
+    let (name, _) = name_and_fields(text);
+    is_named(A_FORMS, name)
+}
+
+/// What is wrong with a text that is no message of a slot: with its words, where it has the name of one; else with its first
+/// word, or with what stands behind that.
+fn message_reason(form: Form, slot: Slot, text: &str, words: Option<Fault>) -> Reason<'_>
+    ensures { (result.fault, result.found.now) ≡ said.message_reason form slot text.now words }
+{
+    if let Some(fault) = words {
+        return Reason { fault, found: text };
+    }
+    let (found, rest) = cut_word(text);
+    match rest {
+        Some(rest) if is_octets(found) => {
+            let (found, _) = cut_word(rest);
+            let fault = Fault::Behind(form);
+            Reason { fault, found }
+        }
+        Some(_) | None => {
+            let fault = Fault::Word(slot);
+            Reason { fault, found }
+        }
+    }
+}
+
+/// This fault, where something is so.
+fn fault_if(is_so: bool, fault: Fault) -> Option<Fault>
+    ensures { result ≡ said.fault_if is_so fault }
+{
+    if is_so { Some(fault) } else { None }
+}
+
+/// What is wrong with the fields of a report.
+fn fields_reason(text: &str) -> Reason<'_>
+    ensures { (result.fault, result.found.now) ≡ said.fields_reason text.now }
+{
+    match fields_fault(text) {
+        Some(FieldsFault::Word(found)) => Reason {
+            fault: Fault::Field,
+            found,
+        },
+        Some(FieldsFault::NoLevel) => without_word(Fault::NoLevel),
+        Some(FieldsFault::NoNeighbours) | None => without_word(Fault::NoNeighbours),
+    }
+}
+
+/// What is wrong with the rest of a line, which stands in this slot; nothing where it may.
+fn rest_reason(form: Form, slot: Slot, text: &str) -> Option<Reason<'_>>
+    ensures { option_map (λ reason. (reason.fault, reason.found.now)) result ≡
+        said.rest_reason form slot text.now }
+{
+    if slot.fits(text) {
+        return None;
+    }
+    match slot {
+        Slot::OnAbis => {
+            let words = fault_if(has_abis_name(text), Fault::OnAbis);
+            Some(message_reason(form, slot, text, words))
+        }
+        Slot::OnA => {
+            let words = fault_if(has_a_name(text), Fault::OnA);
+            Some(message_reason(form, slot, text, words))
+        }
+        Slot::Fields => Some(fields_reason(text)),
+        Slot::Call
+        | Slot::Cell
+        | Slot::Trx
+        | Slot::Timeslot
+        | Slot::Timer
+        | Slot::Rate
+        | Slot::Habit
+        | Slot::Count
+        | Slot::Whom
+        | Slot::Held
+        | Slot::Answer => Some(message_reason(form, slot, text, None)),
+    }
+}
+
 /// The first word that doesn't fill its slot, of those that are left of a line, or what is missing.
 fn first_wrong<'a>(form: Form, slots: &[Slot], rest: Option<&'a str>) -> Option<Reason<'a>>
     ensures { option_map (λ reason. (reason.fault, reason.found.now)) result ≡
-        said.first_wrong form slots.now (words_left (option_map (λ text. text.now) rest.entry)) }
+        said.first_wrong form slots.now (option_map (λ text. text.now) rest.entry) }
 {
     let Some(text) = rest else {
         return missing(form, slots);
@@ -73,6 +183,9 @@ fn first_wrong<'a>(form: Form, slots: &[Slot], rest: Option<&'a str>) -> Option<
         let fault = Fault::Behind(form);
         return Some(Reason { fault, found });
     };
+    if slot.takes_rest() {
+        return rest_reason(form, *slot, text);
+    }
     if slot.fits(found) {
         first_wrong(form, slots, rest)
     } else {
@@ -92,7 +205,7 @@ fn is_sim(form: Form) -> bool
 #[tactic(auto, unfolding(crate::specs::Reasons::form_reason))]
 fn form_reason<'a>(is_peer: bool, form: Form, rest: Option<&'a str>) -> Option<Reason<'a>>
     ensures { option_map (λ reason. (reason.fault, reason.found.now)) result ≡
-        said.form_reason is_peer (words_left (option_map (λ text. text.now) rest.entry)) form }
+        said.form_reason is_peer (option_map (λ text. text.now) rest.entry) form }
 {
     if is_peer && is_sim(form) {
         Some(without_word(Fault::PeerSim))
@@ -118,7 +231,7 @@ fn text_reason(has_peer: bool, is_peer: bool, text: &str) -> Option<Reason<'_>>
         said.text_reason has_peer is_peer text.now }
 {
     let (found, rest) = cut_word(text);
-    match form_named(found) {
+    match form_by(found, rest) {
         Some(form) => form_reason(is_peer, form, rest),
         None => {
             let fault = keyword_fault(has_peer, is_peer);
@@ -177,8 +290,8 @@ fn form_of(line: &str) -> Option<Form>
     ensures { result ≡ said.form_of line.now }
 {
     let (_, text) = cut_side(line);
-    let (word, _) = cut_word(text);
-    form_named(word)
+    let (word, rest) = cut_word(text);
+    form_by(word, rest)
 }
 
 /// What is wrong with a line of this form where nothing is simulated yet.

@@ -1,5 +1,6 @@
 //! Reasons in words.
 use crate::reasons::{Fault, Reason};
+use encoded_messages::{MessageFault, a_fault, abis_fault};
 use lab_script::forms::{Form, INPUTS, SETTINGS, Slot};
 use screen_text::Escaped;
 use std::fmt;
@@ -31,17 +32,66 @@ impl fmt::Display for Shown<'_> {
     }
 }
 
+/// What the fields of a report may be.
+const FIELDS: &str =
+    "full or sub (0 to 63), qfull or qsub (0 to 7), ta (0 to 63), power (0 to 255), times (1 to 255), each with = \
+behind it, n=CELL:LEVEL, with a comma before each further one, six at most, n=- or dtx, each once";
+
+/// What is wrong with the words of a message, as `encode` says it.
+fn write_message_fault<W: fmt::Write>(
+    f: &mut fmt::Formatter<W>,
+    fault: Option<MessageFault<'_>>,
+) -> fmt::Result {
+    match fault {
+        Some(fault) => write!(f, "{fault}"),
+        None => Ok(()),
+    }
+}
+
 /// What the word of a slot may be.
 fn allowed(slot: Slot) -> &'static str {
     match slot {
         Slot::Call => "0 to 65535",
         Slot::Cell | Slot::Trx => "0 to 255",
         Slot::Timeslot => "0 to 7, with /0 or /1 behind it for half rate",
-        Slot::Octets => "one octet or more, each in two hexadecimal digits",
+        Slot::OnAbis | Slot::OnA => "one octet or more, each in two hexadecimal digits",
         Slot::Timer => "T3103, T7 or T8",
         Slot::Rate => "full or half",
         Slot::Habit => "arrive, return or vanish",
         Slot::Count => "1 to 255",
+        Slot::Whom => "0 to 65535, or all",
+        Slot::Held => "detection or complete",
+        Slot::Answer => "ack, nack, detect, complete, failure or released",
+        Slot::Fields => FIELDS,
+    }
+}
+
+/// What else the word of a slot may be, where it looks as if it began that: a message in words begins with a capital.
+fn or_in_words(slot: Slot, word: &str) -> &'static str {
+    match slot {
+        Slot::OnAbis | Slot::OnA => {
+            if word
+                .bytes()
+                .next()
+                .is_some_and(|byte| byte.is_ascii_uppercase())
+            {
+                ", or a message in words"
+            } else {
+                ""
+            }
+        }
+        Slot::Call
+        | Slot::Cell
+        | Slot::Trx
+        | Slot::Timeslot
+        | Slot::Timer
+        | Slot::Rate
+        | Slot::Habit
+        | Slot::Count
+        | Slot::Whom
+        | Slot::Held
+        | Slot::Answer
+        | Slot::Fields => "",
     }
 }
 
@@ -74,49 +124,75 @@ impl fmt::Display for Keywords {
     }
 }
 
+/// Says what is wrong; `other_line` says which other line may come, where lines come alone.
+fn write_reason<W: fmt::Write>(
+    f: &mut fmt::Formatter<W>,
+    reason: Reason<'_>,
+    other_line: &str,
+) -> fmt::Result {
+    let word = reason.found;
+    let found = Shown {
+        word,
+        nothing: "two blanks, or one at the end",
+    };
+    let more = Shown {
+        word,
+        nothing: "a blank",
+    };
+    let inputs = Keywords {
+        forms: INPUTS,
+        before_last: ", ",
+    };
+    let settings = Keywords {
+        forms: SETTINGS,
+        before_last: " or ",
+    };
+    match reason.fault {
+        Fault::ByteOrderMark => write!(f, "a byte order mark stands before the first word"),
+        Fault::NoPeer => write!(
+            f,
+            "2: is for a second controller, and there is none (--peer SITE)"
+        ),
+        Fault::Keyword => write!(
+            f,
+            "a line begins with {inputs}, sim, {settings}, with 2: and a blank, or with #, found {more}"
+        ),
+        Fault::LoneKeyword => write!(
+            f,
+            "a line begins with {inputs}, sim, {settings}, or with #{other_line}, found {more}"
+        ),
+        Fault::PeerKeyword => { write!(f, "behind 2: stands {inputs}, {settings}, found {found}") }
+        Fault::PeerSim => write!(f, "sim is for both controllers, and stands without 2:"),
+        Fault::Word(slot) => write!(
+            f,
+            "{} is {}{}, found {found}",
+            slot.name(),
+            allowed(slot),
+            or_in_words(slot, word)
+        ),
+        Fault::Field => write!(f, "FIELD is {FIELDS}, found {found}"),
+        Fault::NoLevel => write!(f, "full is missing, as in full=30"),
+        Fault::NoNeighbours => write!(f, "n is missing, as in n=1:40, or n=- for none"),
+        Fault::OnAbis => write_message_fault(f, abis_fault(word)),
+        Fault::OnA => write_message_fault(f, a_fault(word)),
+        Fault::Missing(slot, form) => write!(f, "{} is missing in {form}", slot.name()),
+        Fault::Behind(form) => write!(f, "nothing stands behind {form}, found {more}"),
+        Fault::NoSim(form) => write!(f, "{form} needs a line sim before it"),
+    }
+}
+
 impl fmt::Display for Reason<'_> {
     fn fmt<W: fmt::Write>(&self, f: &mut fmt::Formatter<W>) -> fmt::Result {
-        let word = self.found;
-        let found = Shown {
-            word,
-            nothing: "two blanks, or one at the end",
-        };
-        let more = Shown {
-            word,
-            nothing: "a blank",
-        };
-        let inputs = Keywords {
-            forms: INPUTS,
-            before_last: ", ",
-        };
-        let settings = Keywords {
-            forms: SETTINGS,
-            before_last: " or ",
-        };
-        match self.fault {
-            Fault::ByteOrderMark => write!(f, "a byte order mark stands before the first word"),
-            Fault::NoPeer => write!(
-                f,
-                "2: is for a second controller, and there is none (--peer SITE)"
-            ),
-            Fault::Keyword => write!(
-                f,
-                "a line begins with {inputs}, sim, {settings}, with 2: and a blank, or with #, found {more}"
-            ),
-            Fault::LoneKeyword => write!(
-                f,
-                "a line begins with {inputs}, sim, {settings}, or with #, found {more}"
-            ),
-            Fault::PeerKeyword => {
-                write!(f, "behind 2: stands {inputs}, {settings}, found {found}")
-            }
-            Fault::PeerSim => write!(f, "sim is for both controllers, and stands without 2:"),
-            Fault::Word(slot) => {
-                write!(f, "{} is {}, found {found}", slot.name(), allowed(slot))
-            }
-            Fault::Missing(slot, form) => write!(f, "{} is missing in {form}", slot.name()),
-            Fault::Behind(form) => write!(f, "nothing stands behind {form}, found {more}"),
-            Fault::NoSim(form) => write!(f, "{form} needs a line sim before it"),
-        }
+        write_reason(f, *self, "")
+    }
+}
+
+/// Why a line can't be read that comes alone, where one may ask for a summary.
+#[derive(Clone, Copy, Debug, PartialEq, Eq)]
+pub struct LoneReason<'a>(pub Reason<'a>);
+
+impl fmt::Display for LoneReason<'_> {
+    fn fmt<W: fmt::Write>(&self, f: &mut fmt::Formatter<W>) -> fmt::Result {
+        write_reason(f, self.0, ", or is summary")
     }
 }

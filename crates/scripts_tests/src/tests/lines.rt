@@ -1,13 +1,28 @@
 //! What the lines of a script give. Which lines can't be read, the contracts say; a few show that they say what is meant.
 use super::{Fail, Global, RefusingHeap, equals_at, holds_at};
 use attempt_journal::Timer;
-use bts_model::{Act, Habit, Setting, Sub};
+use bts_model::{Act, Answer, Habit, Held, Setting, Sub};
 use channel_fsm::{ChanId, Rate};
 use ho_procedure::exchange::{Inbound, Line};
+use lab_script::asked::{Asked, Heard, Report, Whom};
 use lab_script::script::{
     Given, Item, ScriptFault, Side, first_unreadable, is_octets, read_script,
 };
 use std::process::Abort;
+
+/// What a mobile reports, with neighbours that nobody owns.
+#[derive(Clone, Copy, Debug, PartialEq, Eq)]
+struct Reported<'a> {
+    full: u8,
+    sub: u8,
+    qfull: u8,
+    qsub: u8,
+    dtx: bool,
+    ta: Option<u8>,
+    power: u8,
+    heard: &'a [Option<Heard>],
+    times: u8,
+}
 
 /// What a line gives, with octets that nobody owns.
 #[derive(Clone, Copy, Debug, PartialEq, Eq)]
@@ -19,9 +34,12 @@ enum Gives<'a> {
     Attach,
     Set(Setting),
     HangUp(u16),
+    Reports(Whom, Reported<'a>),
+    Answers(u16, Answer),
+    MobileOf(u16, Habit),
 }
 
-use Gives::{A, Abis, Attach, Expiry, HangUp, Operator, Set};
+use Gives::{A, Abis, Answers, Attach, Expiry, HangUp, MobileOf, Operator, Reports, Set};
 
 /// What is set at channel 255/254/7 of the first controller.
 const SETTING: Setting = Setting {
@@ -37,8 +55,50 @@ const SETTING: Setting = Setting {
 const PEER_HOLD: Setting = Setting {
     controller: 1,
     sub: Sub::Half1,
-    act: Act::Hold,
+    act: Act::Hold(Held::Acknowledgement),
     ..SETTING
+};
+
+/// A hold of what a mobile says that came to the first.
+const HOLD_COMPLETE: Setting = Setting {
+    act: Act::Hold(Held::Complete),
+    ..SETTING
+};
+
+/// A report of two neighbours, of which nothing else is said.
+const REPORT: Reported<'static> = Reported {
+    full: 30,
+    sub: 30,
+    qfull: 0,
+    qsub: 0,
+    dtx: false,
+    ta: None,
+    power: 0,
+    heard: &[
+        Some(Heard { cell: 1, level: 40 }),
+        Some(Heard {
+            cell: 64,
+            level: 63,
+        }),
+        None,
+        None,
+        None,
+        None,
+    ],
+    times: 1,
+};
+
+/// One of no neighbour, of which all is said.
+const FULL_REPORT: Reported<'static> = Reported {
+    full: 63,
+    sub: 0,
+    qfull: 2,
+    qsub: 1,
+    dtx: true,
+    ta: Some(63),
+    power: 4,
+    heard: &[None, None, None, None, None, None],
+    times: 3,
 };
 
 const LET: Setting = Setting {
@@ -115,7 +175,14 @@ cut 255 254 7/0 255
 open 3 0 1 07/0
 open 4 0 1 0/1
 seize 5 06 full
-2: seize 6 0 half";
+2: seize 6 0 half
+abis 255 1 CHANNEL ACTIVATION NACK cause=32 tn=3/1
+2: a 7 CLEAR COMMAND cause=9
+report 7 full=30 n=1:40,64:63
+2: report all n=- times=3 dtx qsub=1 qfull=2 sub=0 full=63 power=4 ta=63
+2: answer 65535 released
+hold 255 254 7 complete
+2: mobile 8 vanish";
 
 /// What they give, and for which controller.
 const ITEMS: &[(Side, Gives<'static>)] = &[
@@ -183,6 +250,16 @@ const ITEMS: &[(Side, Gives<'static>)] = &[
             rate: Rate::Half,
         }),
     ),
+    (
+        Side::First,
+        Abis(255, 1, &[0x08, 0x23, 0x01, 0x1B, 0x1A, 0x01, 0x20]),
+    ),
+    (Side::Peer, A(7, &[0x00, 0x04, 0x20, 0x04, 0x01, 0x09])),
+    (Side::First, Reports(Whom::Call(7), REPORT)),
+    (Side::Peer, Reports(Whom::All, FULL_REPORT)),
+    (Side::Peer, Answers(65535, Answer::ReleaseAck)),
+    (Side::First, Set(HOLD_COMPLETE)),
+    (Side::Peer, MobileOf(8, Habit::Vanish)),
 ];
 
 fn input_of<'a>(input: &'a Inbound<Global>) -> Gives<'a> {
@@ -194,12 +271,29 @@ fn input_of<'a>(input: &'a Inbound<Global>) -> Gives<'a> {
     }
 }
 
+fn report_of<'a>(report: &'a Report) -> Reported<'a> {
+    Reported {
+        full: report.full,
+        sub: report.sub,
+        qfull: report.qfull,
+        qsub: report.qsub,
+        dtx: report.dtx,
+        ta: report.ta,
+        power: report.power,
+        heard: &report.heard,
+        times: report.times,
+    }
+}
+
 fn given_by<'a>(item: &'a Item<Global>) -> Gives<'a> {
     match &item.given {
         Given::Input(input) => input_of(input),
         Given::Attach => Attach,
         Given::Set(setting) => Set(*setting),
         Given::HangUp(call) => HangUp(*call),
+        Given::Ask(Asked::Report { whom, report }) => Reports(*whom, report_of(report)),
+        Given::Ask(Asked::Answer { call, answer }) => Answers(*call, *answer),
+        Given::MobileOf { call, habit } => MobileOf(*call, *habit),
     }
 }
 

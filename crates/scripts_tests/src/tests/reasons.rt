@@ -7,7 +7,7 @@ use std::process::Abort;
 
 /// What a line begins with.
 const WORDS: &str =
-    "open, seize, handover, undo, clear, expire, abis, a, sim, refuse, hold, let, mobile, double, cut or hangup";
+    "open, seize, handover, undo, clear, expire, abis, a, report, answer, sim, refuse, hold, let, mobile, double, cut or hangup";
 
 /// Lines that can't be read, with a second controller, and why.
 const UNREADABLE: &[(&str, &str)] = &[
@@ -71,12 +71,64 @@ const UNREADABLE: &[(&str, &str)] = &[
     ),
     ("sim ", "nothing stands behind sim, found a blank"),
     (
+        "abis 0 0 CHANEL ACTIVATION ACK tn=3 frame=0",
+        "HEX is one octet or more, each in two hexadecimal digits, or a message in words, found CHANEL",
+    ),
+    (
+        "abis 0 0 CHANNEL ACTIVATION ACK tn=8 frame=0",
+        "tn is 0 to 7, with /0 or /1 behind it for half rate, found \"8\"",
+    ),
+    ("abis 0 0 CHANNEL ACTIVATION ACK tn=3", "frame is missing"),
+    (
+        "2: a 1 CLEAR COMMAND cause=9 rr=0",
+        "\"rr=0\" is no field of the message",
+    ),
+    // a message of the other link
+    (
+        "a 1 CHANNEL ACTIVATION ACK tn=3 frame=0",
+        "HEX is one octet or more, each in two hexadecimal digits, or a message in words, found CHANNEL",
+    ),
+    ("report", "CALL is missing in report CALL FIELD"),
+    (
+        "report al full=30 n=-",
+        "CALL is 0 to 65535, or all, found al",
+    ),
+    ("report 1", "FIELD is missing in report CALL FIELD"),
+    ("report 1 n=-", "full is missing, as in full=30"),
+    (
+        "report 1 full=30 times=2",
+        "n is missing, as in n=1:40, or n=- for none",
+    ),
+    ("answer 1", "ANSWER is missing in answer CALL ANSWER"),
+    (
+        "answer 1 acknowledged",
+        "ANSWER is ack, nack, detect, complete, failure or released, found acknowledged",
+    ),
+    (
+        "answer 1 ack 2",
+        "nothing stands behind answer CALL ANSWER, found 2",
+    ),
+    (
+        "hold 0 0 3 ack",
+        "ANSWER is detection or complete, found ack",
+    ),
+    (
+        "hold 0 0 3 complete 1",
+        "nothing stands behind hold CELL TRX TN ANSWER, found 1",
+    ),
+    (
+        "mobile 1 stay",
+        "HABIT is arrive, return or vanish, found stay",
+    ),
+    ("mobile all return", "CALL is 0 to 65535, found all"),
+    ("mobile 1 2", "TN is missing in mobile CELL TRX TN HABIT"),
+    (
         "2: # a comment",
-        "behind 2: stands open, seize, handover, undo, clear, expire, abis, a, refuse, hold, let, mobile, double, cut or hangup, found #",
+        "behind 2: stands open, seize, handover, undo, clear, expire, abis, a, report, answer, refuse, hold, let, mobile, double, cut or hangup, found #",
     ),
     (
         "2: ",
-        "behind 2: stands open, seize, handover, undo, clear, expire, abis, a, refuse, hold, let, mobile, double, cut or hangup, found two blanks, or one at the end",
+        "behind 2: stands open, seize, handover, undo, clear, expire, abis, a, report, answer, refuse, hold, let, mobile, double, cut or hangup, found two blanks, or one at the end",
     ),
     (
         "2: sim 1",
@@ -126,6 +178,48 @@ fn lines_that_cannot_be_read(rt: HostRuntime) -> Result<(), Fail> {
     Ok(())
 }
 
+/// Words that no field of a report is, or that stand twice.
+const NO_FIELDS: &[(&str, &str)] = &[
+    ("full=64 n=-", "full=64"),
+    ("full=30 n=-,1:40", "n=-,1:40"),
+    ("full=30 n=1:64", "n=1:64"),
+    ("full=30 n=256:1", "n=256:1"),
+    ("full=30 n=1", "n=1"),
+    ("full=30 n=", "n="),
+    ("full=30 n=1:1,", "n=1:1,"),
+    (
+        "full=30 n=1:1,1:1,1:1,1:1,1:1,1:1,1:1",
+        "n=1:1,1:1,1:1,1:1,1:1,1:1,1:1",
+    ),
+    ("full=30 full=30 n=-", "full=30"),
+    ("full=30 dtx dtx n=-", "dtx"),
+    ("full=30 dtx=1 n=-", "dtx=1"),
+    ("full=30 qfull=8 n=-", "qfull=8"),
+    ("full=30 qsub=8 n=-", "qsub=8"),
+    ("full=30 ta=64 n=-", "ta=64"),
+    ("full=30 power=256 n=-", "power=256"),
+    ("full=30 times=0 n=-", "times=0"),
+    ("full=30 times=256 n=-", "times=256"),
+    ("full=30 level=3 n=-", "level=3"),
+    ("full=30 FULL=30 n=-", "FULL=30"),
+    ("full=30 n=- ", "two blanks, or one at the end"),
+];
+
+#[test]
+fn fields_of_reports(rt: HostRuntime) -> Result<(), Fail> {
+    for (fields, found) in NO_FIELDS {
+        let line = format!(in rt.alloc(); "report 1 {fields}")?;
+        equals_at(&rt, first_unreadable(line.as_str(), false), Some(1), fields);
+        let said = match line_reason(line.as_str(), false) {
+            Some(reason) => format!(in rt.alloc(); "{reason}")?,
+            None => String::new(rt.alloc()),
+        };
+        let end = format!(in rt.alloc(); ", found {found}")?;
+        equals_at(&rt, said.as_str().ends_with(end.as_str()), true, fields);
+    }
+    Ok(())
+}
+
 /// Scripts, the line of each that can't be read first, whether there is a second controller, and why.
 const SCRIPTS: &[(&str, usize, bool, &str)] = &[
     (
@@ -138,7 +232,7 @@ const SCRIPTS: &[(&str, usize, bool, &str)] = &[
         "undo 1\nundu 1",
         2,
         false,
-        "a line begins with open, seize, handover, undo, clear, expire, abis, a, sim, refuse, hold, let, mobile, double, cut or hangup, or with #, found undu",
+        "a line begins with open, seize, handover, undo, clear, expire, abis, a, report, answer, sim, refuse, hold, let, mobile, double, cut or hangup, or with #, found undu",
     ),
     (
         "undo 1\n2: undo 1",
@@ -151,6 +245,18 @@ const SCRIPTS: &[(&str, usize, bool, &str)] = &[
         1,
         false,
         "hold CELL TRX TN needs a line sim before it",
+    ),
+    (
+        "mobile 1 return\nsim\n",
+        1,
+        false,
+        "mobile CALL HABIT needs a line sim before it",
+    ),
+    (
+        "hold 0 0 3 detection\nsim\n",
+        1,
+        false,
+        "hold CELL TRX TN ANSWER needs a line sim before it",
     ),
     (
         "2: hangup 1\n",
@@ -189,15 +295,26 @@ clear 65535
 expire 1 T3103
 abis 0 0 0822010B08AbCd
 a 1 00
+abis 0 0 CHANNEL ACTIVATION NACK cause=32 tn=3/1
+a 1 CLEAR COMMAND cause=9
+report 1 full=63 n=-
+report all times=255 n=0:63,1:0,2:0,3:0,64:0,255:0 dtx full=0 sub=0 qfull=7 qsub=7 ta=63 power=255
+answer 1 released
 sim
 refuse 0 0 3
 hold 0 0 3
+hold 0 0 3/0 detection
+hold 0 0 3 complete
+mobile 65535 vanish
 let 0 0 3
 mobile 0 0 3 arrive
 hangup 1
 2: open 1 0 0 3
 2: seize 1 0 half
-2: hangup 1";
+2: hangup 1
+2: report 1 full=0 n=-
+2: answer 1 ack
+2: mobile 1 arrive";
 
 #[test]
 fn lines_that_can_be_read_have_no_reason(rt: HostRuntime) {

@@ -1,5 +1,4 @@
-use Rattle.lab_runs.specs.Turns.{inputs_in}
-use Rattle.lab_runs.specs.Course.{Went}
+use Rattle.lab_runs.specs.Course.{Follows}
 use Rattle.lab_runs.proofs.course.Course.run.Given as goal
 
 -- the lines so far were followed
@@ -7,5 +6,5 @@ abbrev pub invariant-loop-item : goal.invariant-loop-item
 invariant-loop-item g l = record {
   can_next : (goal.iterator-loop-item g).can_next l.item-iterator;
   is_finite : (goal.iterator-loop-item g).is_finite l.item-iterator;
-  went : Went (inputs_in l.yielded) l.fn.self l.self;
+  followed : Follows l.yielded l.fn.self l.self;
 }

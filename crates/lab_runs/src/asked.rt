@@ -1,0 +1,238 @@
+//! Inputs that a line asks of its controller's book: reports and answers of stations about channels that the line doesn't
+//! name.
+ghost use Rattle.std.specs.Prelude.{◌≡◌, ◌<◌, ◌+◌, ◌++◌, [], replicate, IfOk, OnOk, OnErr};
+ghost use Rattle.cell_table.specs.Site.{channels};
+ghost use Rattle.lab_runs.specs.Asked as said;
+
+use crate::calls::{channel_of, is_on, serving_channel};
+use crate::reports::{bits_of, from_station, report_on};
+use bts_model::{Answer, octets_of};
+use cell_table::Site;
+use channel_fsm::ChanId;
+use ho_procedure::exchange::Inbound;
+use lab_script::asked::{Asked, Report, Whom};
+use radio_book::book::Book;
+use radio_desk::desk::Desk;
+use std::alloc::{AllocError, Allocator};
+use std::fmt;
+
+/// Why nothing comes of a line that asks its controller's book.
+#[derive(Clone, Copy, Debug, PartialEq, Eq)]
+pub enum Unmet {
+    /// There is no such call.
+    NoCall(u16),
+    /// The call is on no channel: it comes from another controller, and hasn't come yet.
+    NoChannel(u16),
+    /// This cell isn't one that mobiles in that one are told to listen to.
+    NoNeighbour { cell: u8, neighbour: u8 },
+    /// Of no channel that the call had last the release is awaited.
+    NoRelease(u16),
+    /// What the report says can't be reported.
+    NoReport,
+    /// No call is on a channel in whose cell mobiles are told to listen to these neighbours.
+    Nobody,
+}
+
+impl fmt::Display for Unmet {
+    fn fmt<W: fmt::Write>(&self, f: &mut fmt::Formatter<W>) -> fmt::Result {
+        match self {
+            Unmet::NoCall(call) => write!(f, "there is no call {call}"),
+            Unmet::NoChannel(call) => write!(f, "call {call} is on no channel"),
+            Unmet::NoNeighbour { cell, neighbour } => {
+                write!(
+                    f,
+                    "cell {neighbour} isn't in the neighbour list of cell {cell}"
+                )
+            }
+            Unmet::NoRelease(call) => {
+                write!(f, "the release of no channel of call {call} is awaited")
+            }
+            Unmet::NoReport => write!(f, "this can't be reported"),
+            Unmet::Nobody => write!(f, "no call is in a cell with these neighbours"),
+        }
+    }
+}
+
+/// What a line gives that asks the book: this, or why nothing comes of it; or memory was refused.
+pub type Met<T> = Result<Result<T, Unmet>, AllocError>;
+
+/// What a station says of a channel.
+fn answered<A: Allocator + Copy>(
+    alloc: A,
+    chan: ChanId,
+    answer: Answer,
+) -> Result<Inbound<A>, AllocError>
+    requires { chan.tn < 8 }
+    ensures { IfOk result (λ input. input ≡ said.answered chan answer) }
+{
+    Ok(from_station(chan, octets_of(alloc, bits_of(chan), answer)?))
+}
+
+/// Appends an input so many times.
+fn add_times<A: Allocator + Copy>(
+    alloc: A,
+    inputs: &mut Vec<Inbound<A>, A>,
+    input: &Inbound<A>,
+    times: u8,
+) -> Result<(), AllocError>
+    ensures { OnOk result (inputs.new.items ≡ inputs.old.items ++ replicate times input.now) }
+{
+    for _ in 0..times {
+        inputs.push(input.copy(alloc)?)?;
+    }
+    Ok(())
+}
+
+/// Appends the reports of the mobile on a channel.
+fn add_reports<A: Allocator + Copy>(
+    alloc: A,
+    site: &Site<A>,
+    chan: ChanId,
+    report: &Report,
+    inputs: &mut Vec<Inbound<A>, A>,
+) -> Met<()>
+    requires { chan.tn < 8 }
+    ensures reports { OnOk result (said.AddsReports site.now report.now chan
+        inputs.old.items inputs.new.items) }
+    ensures unmet { IfOk result (λ found. OnErr found (inputs.new.items ≡ inputs.old.items)) }
+{
+    match report_on(alloc, site, chan, report)? {
+        Ok(input) => Ok(Ok(add_times(alloc, inputs, &input, report.times)?)),
+        Err(unmet) => Ok(Err(unmet)),
+    }
+}
+
+/// The same where a call is on the channel. Nothing is said of it where there is nothing to report.
+fn add_reports_if_on<A: Allocator + Copy>(
+    alloc: A,
+    book: &mut Book<A>,
+    chan: ChanId,
+    report: &Report,
+    inputs: &mut Vec<Inbound<A>, A>,
+) -> Result<(), AllocError>
+    ensures reports { OnOk result (said.AddsReportsIfOn book.old report.now chan
+        inputs.old.items inputs.new.items) }
+    ensures book { OnOk result (book.new ≡ book.old) }
+{
+    if is_on(book, chan)? {
+        let _ = add_reports(alloc, book.site(), chan, report, inputs)?;
+    }
+    Ok(())
+}
+
+/// The same of the channel with this number, where there is one.
+fn add_reports_at<A: Allocator + Copy>(
+    alloc: A,
+    book: &mut Book<A>,
+    index: usize,
+    report: &Report,
+    inputs: &mut Vec<Inbound<A>, A>,
+) -> Result<(), AllocError>
+    ensures reports { OnOk result (
+        said.AreReportsUpTo book.old report.now index inputs.old.items →
+        said.AreReportsUpTo book.old report.now (index + 1) inputs.new.items) }
+    ensures book { OnOk result (book.new ≡ book.old) }
+{
+    match book.site().chan_at(index) {
+        Some(chan) => add_reports_if_on(alloc, book, chan, report, inputs),
+        None => Ok(()),
+    }
+}
+
+/// The reports of all mobiles that are on a channel, in the order of the channels.
+fn all_reports<A: Allocator + Copy>(
+    alloc: A,
+    book: &mut Book<A>,
+    report: &Report,
+) -> Result<Vec<Inbound<A>, A>, AllocError>
+    ensures { IfOk result (λ inputs. said.AreReportsOfAll book.old report.now
+        (channels book.old.site) inputs.items) }
+{
+    let mut inputs = Vec::new(alloc);
+    for index in 0..book.site().channels() {
+        add_reports_at(alloc, book, index, report, &mut inputs)?;
+    }
+    Ok(inputs)
+}
+
+/// The same, or that there are none.
+fn reports_of_all<A: Allocator + Copy>(
+    alloc: A,
+    desk: &Desk<A>,
+    report: &Report,
+) -> Met<Vec<Inbound<A>, A>>
+    ensures reports { IfOk result (λ found. IfOk found (λ inputs.
+        said.AreReportsOf desk.now.book Whom.All report.now inputs.items)) }
+    ensures unmet { IfOk result (λ found. OnErr found
+        (said.AreReportsOf {A = A} desk.now.book Whom.All report.now [])) }
+{
+    let inputs = all_reports(alloc, &mut desk.book().copy()?, report)?;
+    if inputs.is_empty() {
+        Ok(Err(Unmet::Nobody))
+    } else {
+        Ok(Ok(inputs))
+    }
+}
+
+/// The reports of the mobile of a call.
+fn reports_of_call<A: Allocator + Copy>(
+    alloc: A,
+    desk: &Desk<A>,
+    call: u16,
+    report: &Report,
+) -> Met<Vec<Inbound<A>, A>>
+    ensures reports { IfOk result (λ found. IfOk found (λ inputs.
+        said.AreReportsOf desk.now.book (Whom.Call call) report.now inputs.items)) }
+    ensures unmet { IfOk result (λ found. OnErr found
+        (said.AreReportsOf {A = A} desk.now.book (Whom.Call call) report.now [])) }
+{
+    let chan = match serving_channel(&mut desk.book().copy()?, call)? {
+        Ok(chan) => chan,
+        Err(unmet) => return Ok(Err(unmet)),
+    };
+    let mut inputs = Vec::new(alloc);
+    match add_reports(alloc, desk.book().site(), chan, report, &mut inputs)? {
+        Ok(()) => Ok(Ok(inputs)),
+        Err(unmet) => Ok(Err(unmet)),
+    }
+}
+
+/// The answer of a station about a channel of a call.
+fn answer_of_call<A: Allocator + Copy>(
+    alloc: A,
+    desk: &Desk<A>,
+    call: u16,
+    answer: Answer,
+) -> Met<Vec<Inbound<A>, A>>
+    ensures answer { IfOk result (λ found. IfOk found (λ inputs.
+        inputs.items ≡ said.answers_at answer (said.channel_of desk.now call answer))) }
+    ensures unmet { IfOk result (λ found. OnErr found
+        ([] ≡ said.answers_at {A = A} answer (said.channel_of desk.now call answer))) }
+{
+    let chan = match channel_of(desk, call, answer)? {
+        Ok(chan) => chan,
+        Err(unmet) => return Ok(Err(unmet)),
+    };
+    let mut inputs = Vec::new(alloc);
+    inputs.push(answered(alloc, chan, answer)?)?;
+    Ok(Ok(inputs))
+}
+
+/// The inputs that a line asks of a desk's book, in their order; or why there are none.
+pub(crate) fn inputs_asked<A: Allocator + Copy>(
+    alloc: A,
+    desk: &Desk<A>,
+    asked: Asked,
+) -> Met<Vec<Inbound<A>, A>>
+    ensures inputs { IfOk result (λ found. IfOk found (λ inputs.
+        said.AreAsked desk.now asked inputs.items)) }
+    ensures unmet { IfOk result (λ found. OnErr found (said.AreAsked {A = A} desk.now asked [])) }
+{
+    match asked {
+        Asked::Report { whom, report } => match whom {
+            Whom::Call(call) => reports_of_call(alloc, desk, call, &report),
+            Whom::All => reports_of_all(alloc, desk, &report),
+        },
+        Asked::Answer { call, answer } => answer_of_call(alloc, desk, call, answer),
+    }
+}
