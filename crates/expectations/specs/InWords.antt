@@ -1,6 +1,7 @@
 -- Messages in words, and which of them are expected. A text is the list of its bytes. Ours, of no standard.
-use Rattle.std.specs.Prelude.{ℕ, ◌==◌, ◌&&◌, ◌||◌, Bool, not, List, length, bytes_eq}
-use Rattle.std.specs.List.{slice_split, list_any, list_all}
+use Rattle.std.specs.Prelude.{ℕ, ◌==◌, ◌&&◌, ◌||◌, nat_eq, Bool, not, List, length, bytes_eq}
+use Rattle.std.specs.List.{slice_split, list_any, list_all, starts_with}
+use Rattle.expectations.specs.Marks.{without_mark}
 use Rattle.expectations.specs.Words.{words_of, name_of, are_same, has_all}
 
 -- the parts of a line in words: each but the last ends at a semicolon
@@ -19,6 +20,18 @@ has_part line expected = list_any (λ part. is_part_met part expected) (parts_of
 abbrev pub are_in_words : List ℕ → List ℕ → Bool
 are_in_words line expected = list_all (has_part line) (parts_of expected)
 
--- a line is the text that is expected, or it has words, and these are so
+-- a line has words, and these are so
+abbrev pub are_met : List ℕ → List ℕ → Bool
+are_met words expected = not (length words == 0) && are_in_words words expected
+
+-- a line is the text that is expected, or it is that in words
 abbrev pub is_met_by : List ℕ → List ℕ → List ℕ → Bool
-is_met_by line words expected = bytes_eq line expected || (not (length words == 0) && are_in_words words expected)
+is_met_by line words expected = bytes_eq line expected || are_met words expected
+
+-- A line is refused by a text: it begins so, by itself or in words, or it is that in words.
+abbrev pub is_refused_as : List ℕ → List ℕ → List ℕ → Bool
+is_refused_as line words text = starts_with nat_eq line text || starts_with nat_eq words text || are_met words text
+
+-- Behind no mark a text is of any controller.
+abbrev pub is_refused_by : List ℕ → List ℕ → List ℕ → Bool
+is_refused_by line words text = is_refused_as line words text || is_refused_as (without_mark line) (without_mark words) text

@@ -1,5 +1,5 @@
 -- The words of a text. A text is the list of its bytes. Ours, of no standard.
-use Rattle.std.specs.Prelude.{ℕ, ◌==◌, ◌&&◌, Bool, not, List, length, zip, bytes_eq}
+use Rattle.std.specs.Prelude.{ℕ, ◌==◌, ◌&&◌, nat_le, Bool, not, List, length, filter, zip, bytes_eq}
 use Rattle.std.specs.List.{slice_split, list_any, list_all, take_while}
 
 -- one blank stands between any two
@@ -13,9 +13,17 @@ is_field word = list_any (λ b. b == 61) word
 abbrev pub has_word : List (List ℕ) → List ℕ → Bool
 has_word words word = list_any (λ other. bytes_eq other word) words
 
--- all of these are among those
+-- how often words have a word
+abbrev pub count_of : List (List ℕ) → List ℕ → ℕ
+count_of words word = length (filter (λ other. bytes_eq other word) words)
+
+-- they have a word as often as others, or more often
+abbrev pub has_enough : List (List ℕ) → List (List ℕ) → List ℕ → Bool
+has_enough words others word = nat_le (count_of others word) (count_of words word)
+
+-- all of these are among those, each as often or more often
 abbrev pub has_all : List (List ℕ) → List (List ℕ) → Bool
-has_all words others = list_all (has_word words) others
+has_all words others = list_all (has_enough words others) others
 
 -- the words before the first field
 abbrev pub name_of : List (List ℕ) → List (List ℕ)

@@ -55,18 +55,40 @@ fn is_glued(text: &str) -> bool {
 /// Whether a text begins with one of the other marks, and a letter stands behind that.
 fn is_glued_mark(text: &str) -> bool {
     match text.as_bytes() {
-        [b'!' | b'=' | b'%', letter, ..] => letter.is_ascii_alphabetic(),
+        [b'!' | b'=', letter, ..] => letter.is_ascii_alphabetic(),
         _ => false,
     }
 }
 
 /// Whether a comment looks like one that was to expect something, but for a blank that is missing or too many: `# >`, `#>`
-/// without its blank, and so `#!`, `#=` or `#%` before a letter.
+/// without its blank, and so `#!` or `#=` before a letter.
 ///
 /// No clause says which do: nothing but a line for a person hangs on it.
 pub fn is_slipped(line: &str) -> bool {
     match line.strip_prefix("#") {
         Some(text) => is_set_off(text) || is_glued(text) || is_glued_mark(text),
+        None => false,
+    }
+}
+
+/// Whether a letter begins a text.
+fn begins_with_letter(text: &str) -> bool {
+    match text.as_bytes() {
+        [letter, ..] => letter.is_ascii_alphabetic(),
+        [] => false,
+    }
+}
+
+/// Whether a comment looks like one that was to name a site, and names neither that nor a peer's: `#%`, and a word.
+///
+/// No clause says which do: nothing but a line for a person hangs on it.
+pub fn names_no_site(line: &str) -> bool {
+    match line.strip_prefix("#%") {
+        Some(text) => {
+            begins_with_letter(text.trim_start())
+                && site_in(line).is_none()
+                && peer_in(line).is_none()
+        }
         None => false,
     }
 }

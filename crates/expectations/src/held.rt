@@ -6,7 +6,7 @@ ghost use Rattle.expectations.specs.Held as said;
 
 use crate::slots::{Slot, Use};
 use crate::words::{has_word, has_words_of, word_count};
-use std::alloc::{AllocError, Allocator};
+use std::alloc::{AllocError, Allocator, Global};
 use std::fmt;
 use std::io::{self, Write};
 
@@ -114,10 +114,32 @@ const TIMESLOTS: [&str; 8] = ["0", "1", "2", "3", "4", "5", "6", "7"];
 
 /// What a controller's book holds, as the answer to a question.
 #[derive(Clone, Copy)]
-struct Answer<'a> {
+struct AnswerText<'a> {
     question: Question<'a>,
     mark: &'static str,
     lines: &'a [&'a str],
+}
+
+/// Whether the site of a controller has a TRX.
+fn has_trx(lines: &[&str], mark: &str, trx: &str) -> bool {
+    lines.iter().any(|line| match behind(*line, mark, "state trx ") {
+        Some(found) => found == trx,
+        None => false,
+    })
+}
+
+/// Prints the symbols of a TRX's timeslots, or that the site has no such TRX.
+fn print_trx<W: fmt::Write>(
+    f: &mut fmt::Formatter<W>,
+    lines: &[&str],
+    mark: &str,
+    trx: &str,
+) -> fmt::Result {
+    if !has_trx(lines, mark, trx) {
+        return write!(f, "{mark}no trx {trx}");
+    }
+    write!(f, "{mark}trx {trx}")?;
+    print_slots(f, lines, mark, trx)
 }
 
 /// Prints the symbols of a TRX's timeslots.
@@ -189,18 +211,15 @@ fn count_of(lines: &[&str], mark: &str, words: &str) -> usize {
         .count()
 }
 
-impl fmt::Display for Answer<'_> {
+impl fmt::Display for AnswerText<'_> {
     fn fmt<W: fmt::Write>(&self, f: &mut fmt::Formatter<W>) -> fmt::Result {
-        let Answer {
+        let AnswerText {
             question,
             mark,
             lines,
         } = *self;
         match question {
-            Question::Trx(trx) => {
-                write!(f, "{mark}trx {trx}")?;
-                print_slots(f, lines, mark, trx)
-            }
+            Question::Trx(trx) => print_trx(f, lines, mark, trx),
             Question::Channels => {
                 write!(f, "{mark}channels")?;
                 print_channels(f, lines, mark)
@@ -218,27 +237,6 @@ impl fmt::Display for Answer<'_> {
     }
 }
 
-/// What the lines of what books hold, as `--state` prints them, answer to what is expected of these, in its form: `trx`,
-/// `channels`, `call`, `calls` or `references` behind a controller's mark. `no such expectation` where it has none of these.
-pub fn answer_to<A: Allocator + Copy>(
-    alloc: A,
-    expected: &str,
-    lines: &[&str],
-) -> Result<String<A>, AllocError> {
-    let (mark, text) = cut_mark(expected);
-    match question_of(text) {
-        Some(question) => {
-            let answer = Answer {
-                question,
-                mark,
-                lines,
-            };
-            format!(in alloc; "{answer}")
-        }
-        None => String::from_str(alloc, "no such expectation"),
-    }
-}
-
 /// The marks that lines of what books hold may have.
 const MARKS: [&str; 3] = ["", "1: ", "2: "];
 
@@ -249,6 +247,48 @@ fn has_mark(lines: &[&str], mark: &str) -> bool {
         .any(|line| behind(*line, mark, "state ").is_some())
 }
 
+/// Whether a mark is that of a controller which is there; else why nothing can be asked behind it.
+fn mark_fault(lines: &[&str], mark: &str) -> Option<&'static str> {
+    if has_mark(lines, mark) {
+        None
+    } else if mark.is_empty() {
+        Some("no mark: 1: or 2: stands before it")
+    } else {
+        Some("no such controller: one alone has no mark")
+    }
+}
+
+/// What is answered to what is expected of books.
+#[derive(Drop)]
+pub enum Answered<A: Allocator = Global> {
+    /// What they hold of it.
+    Held(String<A>),
+    /// Nothing is asked of them: why. No expectation is met by that.
+    Unasked(&'static str),
+}
+
+/// What the lines of what books hold, as `--state` prints them, with a line `state trx CELL/TRX` for each TRX of the sites, answer
+/// to what is expected of these, in its form: `trx`, `channels`, `call`, `calls` or `references` behind a controller's mark.
+pub fn answer_to<A: Allocator + Copy>(
+    alloc: A,
+    expected: &str,
+    lines: &[&str],
+) -> Result<Answered<A>, AllocError> {
+    let (mark, text) = cut_mark(expected);
+    let Some(question) = question_of(text) else {
+        return Ok(Answered::Unasked("no such expectation"));
+    };
+    if let Some(fault) = mark_fault(lines, mark) {
+        return Ok(Answered::Unasked(fault));
+    }
+    let answer = AnswerText {
+        question,
+        mark,
+        lines,
+    };
+    Ok(Answered::Held(format!(in alloc; "{answer}")?))
+}
+
 /// Prints what a controller's book holds as the comments that expect it: its channels, and each call.
 fn print_mark<'a, W: Write>(
     out: &mut W,
@@ -256,7 +296,7 @@ fn print_mark<'a, W: Write>(
     mark: &'static str,
     ending: &str,
 ) -> io::Result<()> {
-    let channels = Answer {
+    let channels = AnswerText {
         question: Question::Channels,
         mark,
         lines,
@@ -265,7 +305,7 @@ fn print_mark<'a, W: Write>(
     for line in lines {
         if let Some(rest) = behind(*line, mark, "state call ") {
             let question = Question::Call(first_word(rest));
-            let call = Answer {
+            let call = AnswerText {
                 question,
                 mark,
                 lines,

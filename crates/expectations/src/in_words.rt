@@ -1,7 +1,9 @@
 //! Messages in words, and whether they are those that are expected.
-ghost use Rattle.std.specs.Prelude.{◌≡◌};
+ghost use Rattle.std.specs.Prelude.{◌≡◌, nat_eq};
+ghost use Rattle.std.specs.List.{starts_with};
 ghost use Rattle.expectations.specs.InWords as said;
 
+use crate::marks::without_mark;
 use crate::words::{has_words_of, have_same_name};
 
 /// Whether a message is an expected one: it has the same name, and all fields that are expected.
@@ -26,10 +28,38 @@ pub fn are_in_words(line: &str, expected: &str) -> bool
     expected.split(';').all(|part| has_part(line, part))
 }
 
-/// Whether a line that came is one that is expected: it is that text; or it is a message that is so in words. Where it is no
-/// message it has no words.
+/// Whether a line has words, and these are those that are expected. Where it is no message it has none.
+fn are_met(words: &str, expected: &str) -> bool
+    ensures { result ≡ said.are_met words.now expected.now }
+{
+    !words.is_empty() && are_in_words(words, expected)
+}
+
+/// Whether a line that came is one that is expected: it is that text; or it is a message that is so in words.
 pub fn is_met_by(line: &str, words: &str, expected: &str) -> bool
     ensures met { result ≡ said.is_met_by line.now words.now expected.now }
 {
-    line == expected || (!words.is_empty() && are_in_words(words, expected))
+    line == expected || are_met(words, expected)
+}
+
+/// Whether a text begins with another.
+fn begins(text: &str, start: &str) -> bool
+    ensures { result ≡ starts_with nat_eq text.now start.now }
+{
+    text.starts_with(start)
+}
+
+/// Whether a line is one that is refused, with the marks that both have.
+fn is_refused_as(line: &str, words: &str, text: &str) -> bool
+    ensures { result ≡ said.is_refused_as line.now words.now text.now }
+{
+    begins(line, text) || begins(words, text) || are_met(words, text)
+}
+
+/// Whether a line that came is one that is refused: it begins with that text, by itself or in words, or it is a message that is
+/// so in words. Where the text has no controller's mark, the line may be of any.
+pub fn is_refused_by(line: &str, words: &str, text: &str) -> bool
+    ensures refused { result ≡ said.is_refused_by line.now words.now text.now }
+{
+    is_refused_as(line, words, text) || is_refused_as(without_mark(line), without_mark(words), text)
 }

@@ -5,9 +5,11 @@
 mod comments;
 mod held;
 mod in_words;
+mod marks;
 mod slots;
 mod words;
 
-pub use comments::{Recording, held_in, is_slipped, peer_in, refused_in, site_in};
-pub use held::{answer_to, is_answered, print_expected};
-pub use in_words::{are_in_words, is_met_by};
+pub use comments::{Recording, held_in, is_slipped, names_no_site, peer_in, refused_in, site_in};
+pub use held::{Answered, answer_to, is_answered, print_expected};
+pub use in_words::{are_in_words, is_met_by, is_refused_by};
+pub use marks::without_mark;

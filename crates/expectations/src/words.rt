@@ -16,11 +16,25 @@ pub(crate) fn has_word(text: &str, word: &str) -> bool
     text.split(' ').any(|other| other == word)
 }
 
-/// Whether a text has all words of another.
+/// How often a text has a word.
+fn count_of(text: &str, word: &str) -> usize
+    ensures { result ≡ said.count_of (said.words_of text.now) word.now }
+{
+    text.split(' ').filter(|other| *other == word).count()
+}
+
+/// Whether a text has a word of another as often as that has it, or more often.
+fn has_enough(text: &str, other: &str, word: &str) -> bool
+    ensures { result ≡ said.has_enough (said.words_of text.now) (said.words_of other.now) word.now }
+{
+    count_of(other, word) <= count_of(text, word)
+}
+
+/// Whether a text has all words of another, each as often or more often.
 pub(crate) fn has_words_of(text: &str, other: &str) -> bool
     ensures { result ≡ said.has_all (said.words_of text.now) (said.words_of other.now) }
 {
-    other.split(' ').all(|word| has_word(text, word))
+    other.split(' ').all(|word| has_enough(text, other, word))
 }
 
 /// How many words a text has.

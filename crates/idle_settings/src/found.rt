@@ -1,35 +1,53 @@
-//! The settings of a script that come to nothing.
+//! The lines of a script that come to nothing.
 use crate::used::is_used;
 use bts_model::{Act, Setting};
-use cell_table::Site;
+use cell_table::SiteFault;
 use channel_fsm::ChanId;
-use lab_runs::listener::Printing;
+use ho_procedure::controller::Controller;
+use lab_runs::asked::Unmet;
+use lab_runs::controllers::Controllers;
+use lab_runs::course::Run;
+use lab_runs::listener::Listener;
+use lab_runs::noting::Noting;
 use lab_runs::run::{LabFault, Sites, play};
 use lab_runs::turn::{Source, Turn};
 use lab_script::script::{
     Given, Item, ScriptFault, Side, is_blank, is_comment, read_script, without_return,
 };
+use radio_book::book::Book;
 use std::alloc::{AllocError, Allocator};
 use std::io;
+use trace_text::trace::Mark;
+
+/// Why a line of a script comes to nothing.
+#[derive(Clone, Copy, Debug, PartialEq, Eq)]
+pub enum Cause {
+    /// The site lacks the channel that it names.
+    NoChannel(ChanId),
+    /// Nothing happens behind it on the channel that it names.
+    Unused(ChanId),
+    /// It asks the book of its controller in vain.
+    Unmet(Unmet),
+}
 
 /// A line of a script that comes to nothing.
 #[derive(Clone, Copy, Debug, PartialEq, Eq)]
 pub struct Idle {
     /// Its number, counted from 1.
     pub line: usize,
-    /// The channel that it names.
-    pub chan: ChanId,
-    /// Whether the site has that.
-    pub is_there: bool,
+    pub cause: Cause,
 }
 
 /// What a line gives, as far as it counts here.
 #[derive(Clone, Copy)]
 enum Kind {
+    /// Inputs, or none that it asked for.
     Input,
     Setting(Side, Setting),
     /// It may bring messages of simulators.
     Other,
+    /// A setting of a channel that it doesn't name.
+    Unnamed,
 }
 
 /// A line that gives something: its number, counted from 1, and what.
@@ -42,9 +60,10 @@ struct Line {
 /// What an item is.
 fn kind_of<A: Allocator>(item: &Item<A>) -> Kind {
     match &item.given {
-        Given::Input(_) => Kind::Input,
+        Given::Input(_) | Given::Ask(_) => Kind::Input,
         Given::Set(setting) => Kind::Setting(item.side, *setting),
         Given::Attach | Given::HangUp(_) => Kind::Other,
+        Given::MobileOf { .. } => Kind::Unnamed,
     }
 }
 
@@ -89,16 +108,90 @@ fn lines_of<A: Allocator + Copy>(
     Ok(lines)
 }
 
-/// Whether a site has a channel.
-fn has<A: Allocator + Copy>(site: &Site<A>, chan: ChanId) -> bool {
-    site.is_traffic(chan)
+/// Whether the site of a controller has a channel.
+fn has<A: Allocator + Copy>(controller: &Controller<Noting<A>, A>, chan: ChanId) -> bool {
+    controller.view().desk().book().site().is_traffic(chan)
+}
+
+/// What came of the lines of a script that give something, one behind another: how many inputs each gave, and why nothing came
+/// of those that asked in vain.
+#[derive(Drop)]
+struct Hearing<A: Allocator + Copy> {
+    inputs: Vec<usize, A>,
+    unmet: Vec<(usize, Unmet), A>,
+    /// How many lines began.
+    begun: usize,
+}
+
+impl<A: Allocator + Copy> Hearing<A> {
+    /// Nothing yet.
+    fn new(alloc: A) -> Hearing<A> {
+        Hearing {
+            inputs: Vec::new(alloc),
+            unmet: Vec::new(alloc),
+            begun: 0,
+        }
+    }
+
+    /// How many inputs the line of this place, counted from 0, gave.
+    fn inputs_at(&self, place: usize) -> usize {
+        self.inputs.get(place).copied().unwrap_or(0)
+    }
+
+    /// Why nothing came of it, where it asked in vain.
+    fn unmet_at(&self, place: usize) -> Option<Unmet> {
+        for (at, unmet) in &self.unmet {
+            if *at == place {
+                return Some(*unmet);
+            }
+        }
+        None
+    }
+}
+
+impl<A: Allocator + Copy> Listener<A> for Hearing<A> {
+    fn hear_item(&mut self) -> Result<(), LabFault> {
+        self.inputs.push(0).map_err(AllocError::from)?;
+        self.begun = self.begun.saturating_add(1);
+        Ok(())
+    }
+
+    fn hear_unmet(&mut self, unmet: Unmet) -> Result<(), LabFault> {
+        let place = self.begun.saturating_sub(1);
+        Ok(self.unmet.push((place, unmet)).map_err(AllocError::from)?)
+    }
+
+    fn hear_turn(&mut self, _mark: Mark, turn: &Turn<A>, _book: &Book<A>) -> Result<(), LabFault> {
+        if turn.source == Source::Script
+            && let Some(inputs) = self.inputs.last_mut()
+        {
+            *inputs = inputs.saturating_add(1);
+        }
+        Ok(())
+    }
+
+    fn hear_limit(&mut self) -> Result<(), LabFault> {
+        Ok(())
+    }
+
+    fn hear_end(&mut self, _mark: Mark, _book: &Book<A>) -> Result<(), LabFault> {
+        Ok(())
+    }
+
+    fn hear_no_site(&mut self, _fault: SiteFault) -> io::Result<()> {
+        Ok(())
+    }
+
+    fn hear_unreadable(&mut self, _line: usize) -> io::Result<()> {
+        Ok(())
+    }
 }
 
 /// Whether the site of a side has a channel.
-fn is_there<A: Allocator + Copy>(sites: &Sites<A>, side: Side, chan: ChanId) -> bool {
+fn is_there<A: Allocator + Copy>(controllers: &Controllers<A>, side: Side, chan: ChanId) -> bool {
     match side {
-        Side::First => has(&sites.first, chan),
-        Side::Peer => match &sites.peer {
+        Side::First => has(&controllers.first, chan),
+        Side::Peer => match &controllers.peer {
             Some(peer) => has(peer, chan),
             None => false,
         },
@@ -124,6 +217,7 @@ fn is_unclear(behind: &[Line]) -> bool {
         match line.kind {
             Kind::Input => return false,
             Kind::Other => return true,
+            Kind::Unnamed => {}
             Kind::Setting(_, setting) => {
                 if setting.act == Act::Release {
                     return true;
@@ -138,9 +232,10 @@ fn is_unclear(behind: &[Line]) -> bool {
 #[derive(Drop)]
 struct Search<'a, A: Allocator + Copy> {
     alloc: A,
-    sites: &'a Sites<A>,
+    controllers: &'a Controllers<A>,
     /// The turns from the next line on that gives an input.
     turns: &'a [Turn<A>],
+    heard: &'a Hearing<A>,
     idle: Vec<Idle, A>,
 }
 
@@ -154,79 +249,120 @@ impl<A: Allocator + Copy> Search<'_, A> {
         behind: &[Line],
     ) -> Result<(), AllocError> {
         let chan = chan_of(setting);
-        let is_there = is_there(self.sites, side, chan);
+        let is_there = is_there(self.controllers, side, chan);
         if is_there
             && (is_unclear(behind) || is_used(self.alloc, self.turns, side, chan, setting.act)?)
         {
             return Ok(());
         }
+        let cause = if is_there {
+            Cause::Unused(chan)
+        } else {
+            Cause::NoChannel(chan)
+        };
         self.idle.push(Idle {
             line: number,
-            chan,
-            is_there,
+            cause,
         })?;
         Ok(())
     }
 
-    /// A line that gives an input is passed.
-    fn pass_input(&mut self) {
-        if let [_, behind @ ..] = self.turns {
-            self.turns = from_script(behind);
+    /// The inputs that a line gave are passed.
+    fn pass_inputs(&mut self, count: usize) {
+        for _ in 0..count {
+            if let [_, behind @ ..] = self.turns {
+                self.turns = from_script(behind);
+            }
         }
+    }
+
+    /// Notes a line that asked in vain.
+    fn note_unmet(&mut self, number: usize, place: usize) -> Result<(), AllocError> {
+        if let Some(unmet) = self.heard.unmet_at(place) {
+            self.idle.push(Idle {
+                line: number,
+                cause: Cause::Unmet(unmet),
+            })?;
+        }
+        Ok(())
     }
 
     /// Looks at lines.
     fn look_at_all(&mut self, lines: &[Line]) -> Result<(), AllocError> {
         let mut rest = lines;
+        let mut place = 0_usize;
         while let [line, behind @ ..] = rest {
             match line.kind {
-                Kind::Input => self.pass_input(),
                 Kind::Setting(side, setting) => {
                     self.look_at(line.number, side, setting, behind)?;
                 }
-                Kind::Other => {}
+                Kind::Input | Kind::Other | Kind::Unnamed => {
+                    self.pass_inputs(self.heard.inputs_at(place));
+                    self.note_unmet(line.number, place)?;
+                }
             }
             rest = behind;
+            place = place.saturating_add(1);
         }
         Ok(())
     }
 }
 
-/// Whether lines have a setting.
-fn have_setting(lines: &[Line]) -> bool {
-    lines
-        .iter()
-        .any(|line| matches!(line.kind, Kind::Setting(..)))
+/// Whether some of what a script gives may come to nothing.
+fn may_be_idle<A: Allocator>(items: &[Item<A>]) -> bool {
+    items.iter().any(|item| match &item.given {
+        Given::Set(_) | Given::Ask(_) | Given::MobileOf { .. } => true,
+        Given::Input(_) | Given::Attach | Given::HangUp(_) => false,
+    })
 }
 
-/// The settings of a script that come to nothing over sites, in the order of their lines: those for a channel that the site
-/// lacks, and those behind which nothing happens that they are about. Nothing is said of a script that can't be read. The sites
-/// are read twice: one for the run.
-pub fn idle_settings<A: Allocator + Copy>(
+/// What a script gives; nothing where a line can't be read.
+fn items_of<A: Allocator + Copy>(
     alloc: A,
-    sites: &Sites<A>,
-    for_run: Sites<A>,
     script: &str,
-) -> Result<Vec<Idle, A>, LabFault> {
-    let items = match read_script(alloc, script, sites.peer.is_some()) {
-        Ok(items) => items,
-        Err(ScriptFault::Line(_)) => return Ok(Vec::new(alloc)),
-        Err(ScriptFault::NoMemory) => return Err(LabFault::NoMemory),
-    };
-    let lines = lines_of(alloc, script, &items)?;
-    if !have_setting(&lines) {
-        return Ok(Vec::new(alloc));
+    has_peer: bool,
+) -> Result<Vec<Item<A>, A>, LabFault> {
+    match read_script(alloc, script, has_peer) {
+        Ok(items) => Ok(items),
+        Err(ScriptFault::Line(_)) => Ok(Vec::new(alloc)),
+        Err(ScriptFault::NoMemory) => Err(LabFault::NoMemory),
     }
-    let run = play(alloc, for_run, script, &mut Printing::new(&mut io::sink()))?;
-    let Some(run) = run else {
-        return Ok(Vec::new(alloc));
-    };
+}
+
+/// Those of the lines of a script that come to nothing in its run.
+fn idle_in<A: Allocator + Copy>(
+    alloc: A,
+    run: &Run<A>,
+    heard: &Hearing<A>,
+    lines: &[Line],
+) -> Result<Vec<Idle, A>, AllocError> {
     let mut search = Search {
         alloc,
-        sites,
+        controllers: &run.controllers,
         turns: from_script(&run.turns),
+        heard,
         idle: Vec::new(alloc),
     };
-    search.look_at_all(&lines)?;
+    search.look_at_all(lines)?;
     Ok(search.idle)
+}
+
+/// The lines of a script that come to nothing over sites, in their order: settings for a channel that the site lacks, and those
+/// behind which nothing happens that they are about; lines that ask a controller's book in vain. Nothing is said of a script
+/// that can't be read, and one without such lines isn't run.
+pub fn idle_settings<A: Allocator + Copy>(
+    alloc: A,
+    sites: Sites<A>,
+    script: &str,
+) -> Result<Vec<Idle, A>, LabFault> {
+    let items = items_of(alloc, script, sites.peer.is_some())?;
+    if !may_be_idle(&items) {
+        return Ok(Vec::new(alloc));
+    }
+    let lines = lines_of(alloc, script, &items)?;
+    let mut heard = Hearing::new(alloc);
+    match play(alloc, sites, script, &mut heard)? {
+        Some(run) => Ok(idle_in(alloc, &run, &heard, &lines)?),
+        None => Ok(Vec::new(alloc)),
+    }
 }

@@ -1,5 +1,5 @@
 //! What a setting needs to be used.
-use bts_model::Act;
+use bts_model::{Act, Held};
 use channel_fsm::ChanId;
 use ho_procedure::exchange::{Inbound, Outbound};
 use lab_runs::turn::{Answer, Source, Turn};
@@ -29,7 +29,9 @@ enum Use {
 fn use_of(act: Act) -> Option<Use> {
     match act {
         Act::Refuse => Some(Use::Activation),
-        Act::Hold => Some(Use::Acknowledged),
+        Act::Hold(Held::Acknowledgement) => Some(Use::Acknowledged),
+        // what is kept of a mobile that comes isn't seen
+        Act::Hold(Held::Detection | Held::Complete) => None,
         Act::Mobile(_) => Some(Use::Command),
         Act::Double => Some(Use::Answer),
         Act::Cut(octets) => Some(Use::Cut(octets)),

@@ -5,17 +5,53 @@ ghost use Rattle.run_summaries.specs.Causes as said;
 use bssmap_messages::Bssmap;
 use ho_procedure::exchange::{Inbound, Line};
 use line_words::Content;
+use rr_messages::{Rr, decode};
 use rsl_messages::Rsl;
 use run_counts::Cause;
 use std::alloc::Allocator;
 
-/// Why an attempt is taken back that a message on Abis undoes. A DATA INDICATION that does so carries HANDOVER FAILURE.
+/// Whether a message of the radio path is HANDOVER FAILURE.
+fn is_failure(message: &Rr) -> bool
+    ensures { result ≡ said.is_failure message.now }
+{
+    match message {
+        Rr::HandoverFailure(_) => true,
+        Rr::HandoverCommand { .. }
+        | Rr::HandoverComplete(_)
+        | Rr::ChannelRelease(_)
+        | Rr::PhysicalInformation(_)
+        | Rr::MeasurementReport(_) => false,
+    }
+}
+
+/// Whether a mobile says HANDOVER FAILURE by these octets.
+fn says_failure(octets: &[u8]) -> bool
+    ensures { said.SaysFailure octets.now result }
+{
+    match decode(octets) {
+        Ok(message) => is_failure(&message),
+        Err(_) => false,
+    }
+}
+
+/// Why an attempt is taken back that a mobile's octets undo.
+fn cause_of_mobile(octets: &[u8]) -> Cause
+    ensures { said.IsCauseOfMobile octets.now result }
+{
+    if says_failure(octets) {
+        Cause::MobileReturned
+    } else {
+        Cause::Untold
+    }
+}
+
+/// Why an attempt is taken back that a message on Abis undoes.
 fn cause_of_abis<A: Allocator>(message: &Rsl<A>) -> Cause
-    ensures { result ≡ said.cause_of_abis message.now }
+    ensures { said.IsCauseOfAbis message.now result }
 {
     match message {
         Rsl::ChannelActivationNack { .. } => Cause::ActivationRefused,
-        Rsl::DataIndication { .. } => Cause::MobileReturned,
+        Rsl::DataIndication { layer3, .. } => cause_of_mobile(layer3.as_slice()),
         Rsl::DataRequest { .. }
         | Rsl::ChannelActivation { .. }
         | Rsl::ChannelActivationAck { .. }

@@ -4,6 +4,7 @@ use Rattle.std.specs.Borrow.{Bor}
 use Rattle.std.specs.List.{starts_with}
 use Rattle.lab_script.specs.Script.{is_comment, is_blank}
 use Rattle.expectations.specs.Comments.{behind}
+use Rattle.expectations.specs.Marks.{without_mark}
 
 -- texts that are lent
 abbrev pub texts_of : List (Bor (List ℕ)) → List (List ℕ)
@@ -31,10 +32,6 @@ is_any expected = bytes_eq expected (codes "..")
 -- a line that says something of what comes: that a line does, that none does, or what the books hold
 abbrev pub says_something : List ℕ → Bool
 says_something line = is_expectation line || (is_some (behind (codes "#! ") line) || is_some (behind (codes "#= ") line))
-
--- a line of a trace without the mark of its controller
-abbrev pub without_mark : List ℕ → List ℕ
-without_mark line = if starts_with nat_eq line (codes "1: ") || starts_with nat_eq line (codes "2: ") then drop 3 line else line
 
 -- a line of a trace that is that of an input
 abbrev pub is_input : List ℕ → Bool

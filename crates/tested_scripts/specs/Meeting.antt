@@ -1,8 +1,8 @@
 -- Which lines meet what is expected of them. A line that came is its text, and its words where it is a message. Ours, of no
 -- standard.
-use Rattle.std.specs.Prelude.{◌≡◌, ◌⊎◌, ℕ, ◌+◌, ◌<◌, ◌≤◌, ◌&&◌, ◌||◌, not, nat_eq, Bool, true, false, if◌then◌else◌, List, [], ◌∷◌, length, map, take, Option, Some, None, slice_get, Contains, ◌↔◌}
-use Rattle.std.specs.List.{list_any, starts_with}
-use Rattle.expectations.specs.InWords.{is_met_by}
+use Rattle.std.specs.Prelude.{◌≡◌, ◌⊎◌, ℕ, ◌+◌, ◌<◌, ◌≤◌, ◌&&◌, ◌||◌, not, Bool, true, false, if◌then◌else◌, List, [], ◌∷◌, length, map, take, Option, Some, None, slice_get, Contains, ◌↔◌}
+use Rattle.std.specs.List.{list_any}
+use Rattle.expectations.specs.InWords.{is_met_by, is_refused_by}
 use Rattle.tested_scripts.specs.Lines.{is_expectation, expected_in, is_any, is_input}
 use Rattle.tested_scripts.specs.declared.compare.CameLine.{CameLine}
 use Rattle.tested_scripts.specs.declared.compare.Difference.{Difference}
@@ -79,6 +79,6 @@ behind came text place = if is_at came place text then Some (place + 1) else Non
 abbrev pub AreNext : List Said → Option (List ℕ) → List ℕ → List ℕ → Type 0
 AreNext came expected places found = (to : ℕ) → Contains found to ↔ ((from : ℕ) × Contains places from × Takes came expected from to)
 
--- a line that came begins with a text, by itself or in words
-abbrev pub begins_with : List ℕ → Said → Bool
-begins_with text line = starts_with nat_eq line.0 text || starts_with nat_eq line.1 text
+-- a line that came is refused by a text
+abbrev pub is_refused : List ℕ → Said → Bool
+is_refused text line = is_refused_by line.0 line.1 text

@@ -4,7 +4,7 @@ use Rattle.std.specs.List.{before_first, list_any}
 use Rattle.lab_script.specs.Script.{lines_of}
 use Rattle.expectations.specs.Comments.{behind}
 use Rattle.tested_scripts.specs.Lines.{is_script_line, says_something}
-use Rattle.tested_scripts.specs.Meeting.{Said, AreMet, begins_with}
+use Rattle.tested_scripts.specs.Meeting.{Said, AreMet, is_refused}
 use Rattle.tested_scripts.specs.declared.heard.Came.{Came}
 
 -- the lines of what a run printed: nothing stands behind the last line feed
@@ -27,16 +27,16 @@ next_place lines place = min (2 ^ 64 - 1) (place + (length (part_at lines place)
 abbrev pub expects_something : List ℕ → Bool
 expects_something script = list_any says_something (lines_of script)
 
--- a line's text says that no line that came begins so, and one does
+-- a line's text says that no line that came is so, and one is
 abbrev pub is_broken_by : Option (List ℕ) → List Said → Bool
 is_broken_by None came = false
-is_broken_by (Some text) came = list_any (begins_with text) came
+is_broken_by (Some text) came = list_any (is_refused text) came
 
 -- a line of a script says so of lines that came
 abbrev pub is_broken : List Said → List ℕ → Bool
 is_broken came line = is_broken_by (behind (codes "#! ") line) came
 
--- No line of a part says that none begins so as one that came does.
+-- No line of a part says that none is so as one that came is.
 abbrev pub AreKept : List (List ℕ) → List Said → Type 0
 AreKept part came = list_any (is_broken came) part ≡ false
 
@@ -44,9 +44,9 @@ AreKept part came = list_any (is_broken came) part ≡ false
 abbrev pub IsPartMet : List (List ℕ) → Came → Bool → Type 0
 IsPartMet part came held = AreMet part (came_in came) × AreKept part (came_in came) × (held ≡ true)
 
--- the same of the last part, with the trace's end or without it
+-- the same of the last part: the trace's end may be expected or left out, and is among what came
 abbrev pub IsLastMet : List (List ℕ) → Came → Came → Bool → Type 0
-IsLastMet part came ended held = (AreMet part (came_in came) ⊎ AreMet part (came_in ended)) × AreKept part (came_in came) × (held ≡ true)
+IsLastMet part came ended held = (AreMet part (came_in came) ⊎ AreMet part (came_in ended)) × AreKept part (came_in ended) × (held ≡ true)
 
 -- from a place on all parts are met by what came of them, and the last by what came last
 abbrev pub AllMet : List (List ℕ) → ℕ → List (Came × Bool) → Came → Came → Bool → Type 0

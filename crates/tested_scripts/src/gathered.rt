@@ -2,7 +2,7 @@
 //!
 //! No clause says what is printed: that is shown by tests.
 use crate::heard::Came;
-use cell_table::SiteFault;
+use cell_table::{Site, SiteFault};
 use ho_procedure::exchange::{Inbound, Outbound};
 use lab_runs::course::Course;
 use lab_runs::listener::{Listener, Printing};
@@ -90,6 +90,20 @@ fn print_unsaid<W: Write>(out: &mut W, count: usize) -> io::Result<()> {
     Ok(())
 }
 
+/// Prints a line for each TRX of a site.
+fn print_trxs<A: Allocator + Copy, W: Write>(
+    out: &mut W,
+    mark: Mark,
+    site: &Site<A>,
+) -> io::Result<()> {
+    for cell in 0..site.cells() {
+        for trx in 0..site.trx(cell).unwrap_or(0) {
+            writeln!(out, "{mark}state trx {cell}/{trx}")?;
+        }
+    }
+    Ok(())
+}
+
 impl<A: Allocator + Copy> Gathered<A> {
     /// Nothing was gathered.
     pub(crate) fn new(alloc: A) -> Gathered<A> {
@@ -132,16 +146,21 @@ impl<A: Allocator + Copy> Gathered<A> {
         self.held.clear();
     }
 
+    /// Gathers what the book of a controller holds, and which TRX its site has.
+    fn hold_book(&mut self, mark: Mark, book: &Book<A>) -> Result<(), LabFault> {
+        print_trxs(&mut self.held, mark, book.site())?;
+        self.states.print(&mut self.held, mark, book)
+    }
+
     /// Gathers what the books of a course hold.
     pub(crate) fn hold(&mut self, course: &Course<A>) -> Result<(), LabFault> {
         let controllers = &course.controllers;
         let first = controllers.first.view().desk().book();
         match &controllers.peer {
-            None => self.states.print(&mut self.held, Mark::Alone, first),
+            None => self.hold_book(Mark::Alone, first),
             Some(peer) => {
-                self.states.print(&mut self.held, Mark::First, first)?;
-                let book = peer.view().desk().book();
-                self.states.print(&mut self.held, Mark::Peer, book)
+                self.hold_book(Mark::First, first)?;
+                self.hold_book(Mark::Peer, peer.view().desk().book())
             }
         }
     }

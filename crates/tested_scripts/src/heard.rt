@@ -1,8 +1,7 @@
 //! A run of which each line of a script is told what came of it.
 ghost use Rattle.std.specs.Prelude.{◌≡◌, [], ◌∷◌, Bool, true, is_some, length, IfOk, OnOk};
 ghost use Rattle.lab_script.specs.Script.{AreThere, is_item_there};
-ghost use Rattle.lab_runs.specs.Turns.{inputs_in};
-ghost use Rattle.lab_runs.specs.Course.{Played, Went, has_peer};
+ghost use Rattle.lab_runs.specs.Course.{Played, Follows, has_peer};
 ghost use Rattle.tested_scripts.specs.declared.heard.Came.{Came};
 ghost use Rattle.tested_scripts.specs.Heard.{HasHeard, IsTold};
 ghost use Rattle.lab_runs.specs.Sites.{views_of};
@@ -49,7 +48,7 @@ fn follow_gathered<A: Allocator + Copy>(
     gathered: &mut Gathered<A>,
 ) -> Result<(), LabFault>
     requires there { is_item_there (has_peer course.old) item ≡ true }
-    ensures { OnOk result (Went (inputs_in (item ∷ [])) course.old course.new) }
+    ensures { OnOk result (Follows (item ∷ []) course.old course.new) }
 {
     match course.follow(item, gathered) {
         Ok(()) => Ok(()),
@@ -80,7 +79,7 @@ fn follow_heard<A: Allocator + Copy, L: PartListener>(
     listener: &mut L,
 ) -> Result<(), LabFault>
     requires there { is_item_there (has_peer course.old) item ≡ true }
-    ensures went { OnOk result (Went (inputs_in (item ∷ [])) course.old course.new) }
+    ensures went { OnOk result (Follows (item ∷ []) course.old course.new) }
     ensures heard { OnOk result ((came : Came) × L.Hears listener.old came listener.new) }
 {
     hold_wanted(course, gathered, listener)?;
@@ -98,7 +97,7 @@ fn follow_all<A: Allocator + Copy, L: PartListener>(
     listener: &mut L,
 ) -> Result<(), LabFault>
     requires there { AreThere (has_peer course.old) items.items }
-    ensures went { OnOk result (Went (inputs_in items.items) course.old course.new) }
+    ensures went { OnOk result (Follows items.items course.old course.new) }
     ensures heard { OnOk result (HasHeard L.Hears listener.old (length items.items) listener.new) }
 {
     for item in items {
@@ -141,7 +140,7 @@ fn follow_to_end<A: Allocator + Copy, L: PartListener>(
     listener: &mut L,
 ) -> Result<bool, LabFault>
     requires there { AreThere (has_peer course.old) items.items }
-    ensures went { IfOk result (λ well. well ≡ true → Went (inputs_in items.items) course.old course.new) }
+    ensures went { IfOk result (λ well. well ≡ true → Follows items.items course.old course.new) }
     ensures told { IfOk result (λ well.
         IsTold L.Hears L.HearsEnd listener.old (length items.items) well) }
 {
@@ -159,7 +158,7 @@ pub(crate) fn run_heard<A: Allocator + Copy, L: PartListener>(
     listener: &mut L,
 ) -> Result<bool, LabFault>
     requires there { AreThere (is_some sites.peer) items.items }
-    ensures played { IfOk result (λ well. well ≡ true → Played A (views_of sites) (inputs_in items.items)) }
+    ensures played { IfOk result (λ well. well ≡ true → Played A (views_of sites) items.items) }
     ensures told { IfOk result (λ well.
         IsTold L.Hears L.HearsEnd listener.old (length items.items) well) }
 {

@@ -4,7 +4,7 @@ ghost use Rattle.std.specs.List.{position_or_len};
 ghost use Rattle.lab_script.specs.Script as script;
 ghost use Rattle.tested_scripts.specs.Lines as said;
 
-use expectations::{held_in, refused_in};
+use expectations::{held_in, refused_in, without_mark};
 use lab_script::script::{is_blank, is_comment, without_return};
 use std::alloc::{AllocError, Allocator};
 
@@ -53,16 +53,6 @@ pub(crate) fn says_something(line: &str) -> bool
     ensures { result ≡ said.says_something line.now }
 {
     is_expectation(line) || refused_in(line).is_some() || held_in(line).is_some()
-}
-
-/// A line of a trace without the mark of its controller.
-fn without_mark(line: &str) -> &str
-    ensures { result.now ≡ said.without_mark line.now }
-{
-    match line.strip_prefix("1: ") {
-        Some(rest) => rest,
-        None => line.strip_prefix("2: ").unwrap_or(line),
-    }
 }
 
 /// Whether a line of a trace is that of an input.

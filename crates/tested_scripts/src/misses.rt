@@ -1,6 +1,6 @@
 //! Which lines of a part of a script aren't met, beside those that expect lines one by one.
-ghost use Rattle.std.specs.Prelude.{◌≡◌, nat_eq};
-ghost use Rattle.std.specs.List.{list_any, starts_with};
+ghost use Rattle.std.specs.Prelude.{◌≡◌};
+ghost use Rattle.std.specs.List.{list_any};
 ghost use Rattle.tested_scripts.specs.Lines.{texts_of};
 ghost use Rattle.tested_scripts.specs.Meeting.{said_of};
 ghost use Rattle.tested_scripts.specs.Meeting as said;
@@ -9,38 +9,31 @@ ghost use Rattle.tested_scripts.specs.Tests as tests;
 use crate::came::printed_lines;
 use crate::compare::CameLine;
 use crate::printed::{Miss, print_reason};
-use expectations::{answer_to, held_in, is_answered, refused_in};
+use expectations::{Answered, answer_to, held_in, is_answered, is_refused_by, refused_in};
 use lab_runs::run::LabFault;
 use std::alloc::Allocator;
 use std::io::Write;
 
-/// Whether a text begins with another.
-fn begins(text: &str, start: &str) -> bool
-    ensures { result ≡ starts_with nat_eq text.now start.now }
+/// Whether a line that came is refused by a text.
+fn is_refused(line: &CameLine<'_>, text: &str) -> bool
+    ensures { result ≡ said.is_refused text.now (line.now.text.now, line.now.words.now) }
 {
-    text.starts_with(start)
+    is_refused_by(line.text, line.words, text)
 }
 
-/// Whether a line that came begins with a text, by itself or in words.
-fn begins_with(line: &CameLine<'_>, text: &str) -> bool
-    ensures { result ≡ said.begins_with text.now (line.now.text.now, line.now.words.now) }
+/// Whether one of the lines that came is.
+fn is_any_refused(came: &[CameLine<'_>], text: &str) -> bool
+    ensures { result ≡ list_any (said.is_refused text.now) (said_of came.now) }
 {
-    begins(line.text, text) || begins(line.words, text)
+    came.iter().any(|line| is_refused(line, text))
 }
 
-/// Whether one of the lines that came begins with a text.
-fn is_begun(came: &[CameLine<'_>], text: &str) -> bool
-    ensures { result ≡ list_any (said.begins_with text.now) (said_of came.now) }
-{
-    came.iter().any(|line| begins_with(line, text))
-}
-
-/// Whether a line of a script says that no line begins so as one that came does.
+/// Whether a line of a script says that no such line comes, and one that came is so.
 fn is_broken(line: &str, came: &[CameLine<'_>]) -> bool
     ensures { result ≡ tests.is_broken (said_of came.now) line.now }
 {
     match refused_in(line) {
-        Some(text) => is_begun(came, text),
+        Some(text) => is_any_refused(came, text),
         None => false,
     }
 }
@@ -52,7 +45,7 @@ pub(crate) fn has_broken(part: &[&str], came: &[CameLine<'_>]) -> bool
     part.iter().any(|line| is_broken(*line, came))
 }
 
-/// Prints each line of a part that says so, with the first line that begins so. The part begins behind so many lines of the
+/// Prints each line of a part that says so, with the first line that is so. The part begins behind so many lines of the
 /// script.
 pub(crate) fn print_broken<W: Write>(
     out: &mut W,
@@ -64,7 +57,7 @@ pub(crate) fn print_broken<W: Write>(
     for line in part {
         number = number.saturating_add(1);
         if let Some(refused) = refused_in(*line)
-            && let Some(found) = came.iter().find(|found| begins_with(*found, refused))
+            && let Some(found) = came.iter().find(|found| is_refused(*found, refused))
         {
             let came = found.text;
             print_reason(
@@ -94,11 +87,10 @@ fn unheld<A: Allocator + Copy>(
     let Some(expected) = held_in(line) else {
         return Ok(None);
     };
-    let answer = answer_to(alloc, expected, held)?;
-    if is_answered(&answer, expected) {
-        Ok(None)
-    } else {
-        Ok(Some(answer))
+    match answer_to(alloc, expected, held)? {
+        Answered::Held(answer) if is_answered(&answer, expected) => Ok(None),
+        Answered::Held(answer) => Ok(Some(answer)),
+        Answered::Unasked(why) => Ok(Some(String::from_str(alloc, why)?)),
     }
 }
 

@@ -5,7 +5,6 @@ ghost use Rattle.cell_table.specs.SiteFile.{described_site, IsBlankFile};
 ghost use Rattle.tested_scripts.specs.Lines as expected;
 ghost use Rattle.tested_scripts.specs.Meeting.{AreMet, said_of};
 ghost use Rattle.lab_script.specs.Script.{first_unreadable, items_of};
-ghost use Rattle.lab_runs.specs.Turns.{inputs_in};
 ghost use Rattle.lab_runs.specs.Course.{IsPlayed, Played};
 ghost use Rattle.lab_runs.specs.Sites.{views_of};
 ghost use Rattle.lab_runs.specs.Sites as sites_said;
@@ -166,7 +165,7 @@ impl<W: Write, A: Allocator + Copy> Tester<'_, W, A> {
         Ok(())
     }
 
-    /// Prints which lines of a part say that no line begins so as one that came does.
+    /// Prints which lines of a part say that no line is so as one that came is.
     fn look_at_refused(&mut self, part: &[&str], came: &[CameLine<'_>]) -> Result<(), LabFault>
         ensures lines { self.new.lines.now ≡ self.old.lines.now }
         ensures place { self.new.place ≡ self.old.place }
@@ -227,7 +226,7 @@ impl<W: Write, A: Allocator + Copy> Tester<'_, W, A> {
         let holds = holds_all(self.alloc, part, came.held)?;
         let difference = find_last_difference(self.alloc, part, &lines, &all)?;
         self.look_at_difference(part, &all, difference)?;
-        self.look_at_refused(part, &lines)?;
+        self.look_at_refused(part, &all)?;
         self.look_at_held(part, came.held, holds)
     }
 
@@ -287,7 +286,7 @@ fn test_script<A: Allocator + Copy, W: Write>(
     out: &mut W,
 ) -> Result<Status, LabFault>
     ensures done { result ≡ Ok Status.Done → first_unreadable (is_some sites.peer) script.now ≡ None }
-    ensures played { result ≡ Ok Status.Done → Played A (views_of sites) (inputs_in (items_of script.now)) }
+    ensures played { result ≡ Ok Status.Done → Played A (views_of sites) (items_of script.now) }
     ensures expects { result ≡ Ok Status.Done → said.expects_something script.now ≡ true }
     ensures met { result ≡ Ok Status.Done →
         said.IsMet script.now (length (items_of {A = A} script.now)) }
