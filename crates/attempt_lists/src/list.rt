@@ -8,12 +8,12 @@ use radio_book::book::Book;
 use radio_book::event::{Event, Reply};
 use radio_book::rewind::{RewindFault, Rewound, rewind};
 use read_traces::choices::{Texts, choices_of_trace, event_lines};
-use read_traces::entries::{Entry, first_unreadable};
 use read_traces::reading::{Told, fresh_book, refuse_line, told_entries};
 use read_traces::rewound::is_same;
 use remainders::{Choice, other_choices, print_difference};
 use std::alloc::{Allocator, Global};
 use std::io::Write;
+use trace_entries::entries::{Entry, first_unreadable};
 use trace_text::trace::{Mark, ReplyText};
 
 /// What the trace of one controller tells, and the empty book of its site.

@@ -1,6 +1,6 @@
 //! The numbers of lines, as they stand in a line.
-use read_traces::entries::Entry;
 use std::fmt;
+use trace_entries::entries::Entry;
 
 /// The lines of the entries at some places, upwards: `2,5-9` where nothing but the lines between 5 and 9 has entries between
 /// them; `-` of none.

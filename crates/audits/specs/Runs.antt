@@ -4,7 +4,7 @@ use Rattle.cell_table.specs.SiteFile.{described_site}
 use Rattle.cell_table.specs.Site.{SiteView}
 use Rattle.lab_script.specs.Script.{first_unreadable, items_of}
 use Rattle.lab_runs.specs.declared.course.Run.{Run}
-use Rattle.lab_runs.specs.Turns.{Position, inputs_in}
+use Rattle.lab_runs.specs.Turns.{Position}
 use Rattle.lab_runs.specs.Course.{IsRunOf, option_list}
 use Rattle.radio_desk.specs.Audit.{IsAuditOf}
 use Rattle.audits.specs.declared.runs.Found.{Found}
@@ -20,7 +20,7 @@ AreTold (f ∷ fs) (s ∷ ss) = IsAuditOf s.0.desk f.audit × AreTold fs ss
 -- of a run of the script over the sites these are the audits of its controllers at the end
 pub record AreAuditsOf (A : Type 0) (sites : List SiteView) (script : List ℕ) (audits : Audits) : Type 0 where
   pub run : Run A
-  pub ran : IsRunOf sites (inputs_in (items_of script)) run
+  pub ran : IsRunOf sites (items_of script) run
   pub first : IsAuditOf run.controllers.first.0.desk audits.first.audit
   pub peer_found : AreTold (option_list audits.peer) (option_list run.controllers.peer)
 

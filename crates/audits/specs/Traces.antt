@@ -4,7 +4,7 @@ use Rattle.cell_table.specs.SiteFile.{described_site}
 use Rattle.cell_table.specs.Site.{SiteView}
 use Rattle.radio_book.specs.declared.undone.StepAt.{StepAt}
 use Rattle.radio_book.specs.State.{State, empty_book}
-use Rattle.read_traces.specs.Entries.{first_unreadable, entries_of, events_of}
+use Rattle.trace_entries.specs.Entries.{first_unreadable, entries_of, events_of}
 use Rattle.audits.specs.Histories.{OfTheHistory}
 
 -- the texts describe a site and say events, and this holds of what remains of them, from the empty book of the site on, without

@@ -2,6 +2,7 @@
 use crate::runs::AllBeside;
 use cell_table::SiteFault;
 use ho_procedure::exchange::Outbound;
+use lab_runs::asked::Unmet;
 use lab_runs::listener::Listener;
 use lab_runs::run::LabFault;
 use lab_runs::turn::Turn;
@@ -138,6 +139,14 @@ impl<'a, L: Listener<A>, A: Allocator + Copy> Noting<'a, L, A> {
 }
 
 impl<L: Listener<A>, A: Allocator + Copy> Listener<A> for Noting<'_, L, A> {
+    fn hear_item(&mut self) -> Result<(), LabFault> {
+        self.listener.hear_item()
+    }
+
+    fn hear_unmet(&mut self, unmet: Unmet) -> Result<(), LabFault> {
+        self.listener.hear_unmet(unmet)
+    }
+
     fn hear_turn(&mut self, mark: Mark, turn: &Turn<A>, book: &Book<A>) -> Result<(), LabFault> {
         self.lines.note_turn(turn, self.printed.get())?;
         self.listener.hear_turn(mark, turn, book)

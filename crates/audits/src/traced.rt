@@ -3,7 +3,7 @@ ghost use Rattle.std.specs.Prelude.{◌≡◌, ◌≢◌, ◌++◌, ◌∷◌, [
 ghost use Rattle.cell_table.specs.SiteFile.{IsBlankFile};
 ghost use Rattle.radio_book.specs.State.{empty_book};
 ghost use Rattle.radio_desk.specs.Audit.{events_in, LeadsAlike};
-ghost use Rattle.read_traces.specs.Entries as said;
+ghost use Rattle.trace_entries.specs.Entries as said;
 ghost use Rattle.audits.specs.Histories.{OfTheHistory, LeadsApart};
 ghost use Rattle.audits.specs.Traces.{InWholeTrace};
 
@@ -18,11 +18,11 @@ use radio_desk::audit::Audit;
 use radio_desk::desk::{Desk, DeskFault};
 use radio_desk::seat::Seat;
 use read_traces::choices::{Texts, choices_of_trace, event_lines};
-use read_traces::entries::{Entry, first_unreadable};
 use read_traces::reading::{Told, fresh_book, refuse_line, told_entries};
 use remainders::Choice;
 use std::alloc::{AllocError, Allocator, Global};
 use std::io::Write;
+use trace_entries::entries::{Entry, first_unreadable};
 use trace_text::trace::Mark;
 
 /// A desk judges an event, from a new seat.

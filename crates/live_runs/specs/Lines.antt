@@ -1,15 +1,13 @@
 -- Which lines of those that come in can be read, and what they give. A line is the list of its octets, without its line feed.
 -- Ours, of no standard.
 use Rattle.std.specs.Prelude.{◌≡◌, ◌&&◌, ◌||◌, ◌++◌, ℕ, Bool, true, false, not, nat_lt, if◌then◌else◌, List, [], ◌∷◌, length, Option, Some, None}
-use Rattle.std.specs.List.{list_any, filter_map, flat_map, slice_split, before_first, after_first}
+use Rattle.std.specs.List.{list_any, filter_map, slice_split}
 use Rattle.std.specs.Str.{is_utf8}
 use Rattle.std.specs.Str.Lines.{strip_carriage_return}
-use Rattle.ho_procedure.specs.declared.exchange.Inbound.{Inbound}
 use Rattle.decoded_lines.specs.Reading.{is_feed, longest_line}
-use Rattle.lab_script.specs.declared.side.Side.{Side}
 use Rattle.lab_script.specs.declared.script.Item.{Item}
 use Rattle.lab_script.specs.Script.{is_line, is_sim, needs_sim, item_of, is_item_there}
-use Rattle.lab_runs.specs.Turns.{inputs_in, is_attach}
+use Rattle.lab_runs.specs.Turns.{is_attach}
 use Rattle.live_runs.specs.declared.line.Said.{Said}
 use Rattle.live_runs.specs.declared.line.Said.TheVariants as said
 
@@ -33,9 +31,9 @@ can_be_read has_sim line = is_text line && is_readable has_sim line
 unfoldable pub items_at : {A : Type 0} → List ℕ → List (Item A)
 items_at line = filter_map item_of (script_line line ∷ [])
 
--- the input of a line, if it can be read and gives one
-abbrev pub inputs_at : {A : Type 0} → Bool → List ℕ → List (Side × Inbound A)
-inputs_at has_sim line = if can_be_read has_sim line then inputs_in (items_at line) else []
+-- what a line gives, if it can be read
+abbrev pub given_at : {A : Type 0} → Bool → List ℕ → List (Item A)
+given_at has_sim line = if can_be_read has_sim line then items_at line else []
 
 -- a line attaches the simulators
 unfoldable pub attaches : List ℕ → Bool
@@ -45,14 +43,23 @@ attaches line = is_sim (script_line line) && can_be_read false line
 abbrev pub sim_behind : Bool → List ℕ → Bool
 sim_behind has_sim line = has_sim || attaches line
 
--- The inputs of lines: of each that can be read. Those up to the first line that attaches the simulators are read as before it,
--- all behind it with simulators.
-abbrev pub inputs_of : {A : Type 0} → Bool → List (List ℕ) → List (Side × Inbound A)
-inputs_of has_sim lines = flat_map (inputs_at has_sim) (before_first attaches lines) ++ flat_map (inputs_at true) (after_first attaches lines)
+-- What a line gives where one may attach simulators or may not: where it may not, the line that attaches them can't be read.
+abbrev pub given_by : {A : Type 0} → Bool → Bool → List ℕ → List (Item A)
+given_by sims has_sim line = if sims || not (is_sim (script_line line)) then given_at has_sim line else []
 
--- those of the lines of some octets, where a line feed stands between any two
-abbrev pub inputs_from : {A : Type 0} → Bool → List ℕ → List (Side × Inbound A)
-inputs_from has_sim octets = inputs_of has_sim (slice_split is_feed octets)
+-- and whether simulators are attached behind it
+abbrev pub sim_by : Bool → Bool → List ℕ → Bool
+sim_by sims has_sim line = has_sim || (sims && attaches line)
+
+-- What lines give, one after the other, of which each that can be read gives something: behind one that attaches the simulators
+-- the others are read with these.
+abbrev pub items_of : {A : Type 0} → Bool → Bool → List (List ℕ) → List (Item A)
+items_of sims has_sim [] = []
+items_of sims has_sim (line ∷ lines) = given_by sims has_sim line ++ items_of sims (sim_by sims has_sim line) lines
+
+-- and what the lines of some octets give, where a line feed stands between any two
+abbrev pub items_from : {A : Type 0} → Bool → Bool → List ℕ → List (Item A)
+items_from sims has_sim octets = items_of sims has_sim (slice_split is_feed octets)
 
 -- what a line that gives an item or nothing says
 abbrev pub said_of : {A : Type 0} → Option (Item A) → Said A
@@ -86,6 +93,6 @@ is_there_said (said.Gives item) = is_item_there false item
 -- this is what a line says, where simulators are attached or not
 pub record Says {A : Type 0} (has_sim : Bool) (line : List ℕ) (s : Said A) : Type 0 where
   pub read : is_read s ≡ can_be_read has_sim line
-  pub inputs : inputs_in (items_said s) ≡ inputs_at has_sim line
+  pub gives : items_said s ≡ given_at has_sim line
   pub sim : sim_said has_sim s ≡ sim_behind has_sim line
   pub there : is_there_said s ≡ true

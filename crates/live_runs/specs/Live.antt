@@ -1,35 +1,66 @@
 -- What came of lines at a live controller. Ours, of no standard.
-use Rattle.std.specs.Prelude.{◌≡◌, ◌≢◌, ℕ, Bool, List, [], Option, Some, IfSome}
-use Rattle.ho_procedure.specs.declared.exchange.Inbound.{Inbound}
+use Rattle.std.specs.Prelude.{◌≡◌, ◌≢◌, ◌⊎◌, ◌++◌, ℕ, Bool, List, [], ◌∷◌, Option, Some, IfSome}
+use Rattle.radio_book.specs.State.{State}
 use Rattle.decoded_lines.specs.Reading.{first_line, behind_line}
-use Rattle.lab_script.specs.declared.side.Side.{Side}
+use Rattle.lab_script.specs.declared.script.Item.{Item}
 use Rattle.lab_runs.specs.declared.turn.Turn.{Turn}
-use Rattle.lab_runs.specs.Turns.{AreTurns, scripted}
-use Rattle.lab_runs.specs.Course.{positions_of, has_peer, has_simulators}
+use Rattle.lab_runs.specs.Turns.{Position, Plays}
+use Rattle.lab_runs.specs.Course.{IsAnewAt, BeginsWith, positions_of, has_peer, has_simulators}
 use Rattle.live_runs.specs.declared.taking.Live.{Live}
-use Rattle.live_runs.specs.Lines.{inputs_at, inputs_from, sim_behind}
+use Rattle.live_runs.specs.Lines.{given_by, items_from, sim_by}
 
 -- a line attached the simulators
 abbrev pub has_sim : {A : Type 0} → Live A → Bool
 has_sim s = has_simulators s.course
 
--- By turns the controller came where it is, and these are the inputs that lines gave it, in their order; all others are a
--- simulator's by their source.
-pub record Goes {A : Type 0} (inputs : List (Side × Inbound A)) (s s' : Live A) : Type 0 where
-  pub turns : List (Turn A)
-  pub run : AreTurns (positions_of s.course.controllers) turns (positions_of s'.course.controllers)
-  pub peer : has_peer s'.course ≡ has_peer s.course
-  pub scripted : scripted turns ≡ inputs
+-- a controller is as it was, or its desk began anew
+abbrev pub StaysOrRests : Position → Position → Type 0
+StaysOrRests s s' = (s' ≡ s) ⊎ IsAnewAt s s'
 
--- a line was taken: what it gives was handled
-pub record Takes {A : Type 0} (line : List ℕ) (s s' : Live A) : Type 0 where
-  pub goes : Goes (inputs_at (has_sim s) line) s s'
-  pub sim : has_sim s' ≡ sim_behind (has_sim s) line
+-- the same of the first of some controllers; every other is as it was
+abbrev pub FirstRests : List Position → List Position → Type 0
+FirstRests [] all' = all' ≡ []
+FirstRests (s ∷ others) all' = (s' : Position) × (all' ≡ s' ∷ others) × StaysOrRests s s'
+
+-- one controller is as it was, or its desk began anew
+pub record Rests {A : Type 0} (s s' : Live A) : Type 0 where
+  pub first : FirstRests (positions_of s.course.controllers) (positions_of s'.course.controllers)
+  pub peer : has_peer s'.course ≡ has_peer s.course
+  pub sim : has_sim s' ≡ has_sim s
+
+-- These turns are those of what lines give, in its order, each as a script's; before each, and at the end, the desk of the first
+-- controller may begin anew.
+abbrev pub PlaysWithRests : {A : Type 0} → List (Item A) → List Position → List (Turn A) → List Position → Type 0
+PlaysWithRests [] all turns all' = (turns ≡ []) × FirstRests all all'
+PlaysWithRests {A} (item ∷ items) all turns all' =
+    (before m : List Position) × (mine rest : List (Turn A)) × (turns ≡ mine ++ rest)
+    × FirstRests all before × Plays (item ∷ []) before mine m × PlaysWithRests items m rest all'
+
+-- By turns the controller came where it is, between which its desk may have begun anew, and they are those of what lines gave it,
+-- in their order; all others are a simulator's by their source.
+pub record Goes {A : Type 0} (items : List (Item A)) (s s' : Live A) : Type 0 where
+  pub turns : List (Turn A)
+  pub plays : PlaysWithRests items (positions_of s.course.controllers) turns (positions_of s'.course.controllers)
+  pub peer : has_peer s'.course ≡ has_peer s.course
+
+-- a line was taken, where it may attach simulators or may not: what it gives was handled
+pub record Takes {A : Type 0} (sims : Bool) (line : List ℕ) (s s' : Live A) : Type 0 where
+  pub goes : Goes (given_by sims (has_sim s) line) s s'
+  pub sim : has_sim s' ≡ sim_by sims (has_sim s) line
 
 -- the first line of what a reader has left was taken, and the reader has it no more
-abbrev pub TakesFirst : {A : Type 0} → Option (List ℕ) → Option (List ℕ) → Live A → Live A → Type 0
-TakesFirst old new s s' = IfSome old (λ octets. (octets ≢ []) × Takes (first_line octets) s s' × (new ≡ Some (behind_line octets)))
+abbrev pub TakesFirst : {A : Type 0} → Bool → Option (List ℕ) → Option (List ℕ) → Live A → Live A → Type 0
+TakesFirst sims old new s s' = IfSome old (λ octets. (octets ≢ []) × Takes sims (first_line octets) s s' × (new ≡ Some (behind_line octets)))
 
 -- all lines of some octets were taken
-abbrev pub TakesAll : {A : Type 0} → Option (List ℕ) → Live A → Live A → Type 0
-TakesAll old s s' = IfSome old (λ octets. Goes (inputs_from (has_sim s) octets) s s')
+abbrev pub TakesAll : {A : Type 0} → Bool → Option (List ℕ) → Live A → Live A → Type 0
+TakesAll sims old s s' = IfSome old (λ octets. Goes (items_from sims (has_sim s) octets) s s')
+
+-- From a controller over a book on, which was given nothing before, everything was handled that these items give, in their order,
+-- and between them what is a simulator's by its source. The desk may have begun anew between any two items.
+pub record Played (A : Type 0) (b : State) (items : List (Item A)) : Type 0 where
+  pub first : Position
+  pub opening : BeginsWith b first
+  pub turns : List (Turn A)
+  pub last : List Position
+  pub plays : PlaysWithRests items (first ∷ []) turns last

@@ -14,7 +14,7 @@ mod taking;
 mod unreadable;
 
 pub use fault::LiveFault;
-pub use lines::live_run;
+pub use lines::{LineReader, Rules, live_run};
 pub use listener::{LiveListener, LivePrinting};
 pub use taking::Live;
 pub use unreadable::{Unreadable, unreadable_of};

@@ -1,19 +1,22 @@
 //! The lines of a reader, taken one by one to their end.
-ghost use Rattle.std.specs.Prelude.{◌≡◌, ◌∷◌, [], Ok, true, false, OnOk, IfOk, IfSome};
+ghost use Rattle.std.specs.Prelude.{◌≡◌, ◌∷◌, [], ◌&&◌, Ok, true, false, not, OnOk, IfOk, IfSome};
 ghost use Rattle.std.specs.Io.KnownBytes.{IsAtEnd};
 ghost use Rattle.decoded_lines.specs.Reading.{Gives};
-ghost use Rattle.lab_runs.specs.Course.{Played, has_peer};
-ghost use Rattle.live_runs.specs.Lines.{inputs_from};
-ghost use Rattle.live_runs.specs.Live.{Takes, TakesFirst, TakesAll};
+ghost use Rattle.lab_runs.specs.Course.{has_peer};
+ghost use Rattle.lab_script.specs.Script.{is_sim};
+ghost use Rattle.live_runs.specs.Lines.{items_from, script_line};
+ghost use Rattle.live_runs.specs.Live.{Played, Takes, TakesFirst, TakesAll};
 
 use crate::fault::{LiveFault, unreadable_line};
 use crate::listener::LiveListener;
 use crate::taking::Live;
-use crate::unreadable::unreadable_of;
-use cell_table::Site;
+use crate::unreadable::{Unreadable, unreadable_of};
 use decoded_lines::{Found, next_line};
-use std::alloc::{Allocator, Global};
-use std::io::{self, BufRead, Write};
+use lab_script::script::{is_sim, without_return};
+use radio_book::book::Book;
+use std::alloc::Allocator;
+use std::io::{self, BufRead, BufReader, Read, Write};
+use std::str;
 
 /// Reads the next line.
 fn read_next<A: Allocator, R: BufRead>(
@@ -29,6 +32,35 @@ fn read_next<A: Allocator, R: BufRead>(
     }
 }
 
+/// How lines are taken.
+#[derive(Clone, Copy, Debug, PartialEq, Eq)]
+pub struct Rules {
+    /// The number of the first line.
+    pub first: usize,
+    /// Once the desk's history has so many entries, the desk begins anew behind a line.
+    pub entries: usize,
+    /// Whether a line may attach simulators.
+    pub sims: bool,
+}
+
+/// A reader that knows whether it gives a line without waiting.
+pub trait LineReader: BufRead {
+    /// Whether a line is there already.
+    fn has_line(&self) -> bool;
+}
+
+impl<R: Read + Drop, A: Allocator> LineReader for BufReader<R, A> {
+    fn has_line(&self) -> bool {
+        self.buffer().contains(&b'\n')
+    }
+}
+
+impl LineReader for &[u8] {
+    fn has_line(&self) -> bool {
+        self.contains(&b'\n')
+    }
+}
+
 /// Says which line can't be read: its number on the listener's side, and on `errors` why.
 fn refuse<A: Allocator + Copy, L: LiveListener<A>, E: Write>(
     number: usize,
@@ -41,6 +73,39 @@ fn refuse<A: Allocator + Copy, L: LiveListener<A>, E: Write>(
     if let Some(unreadable) = unreadable_of(line, has_sim) {
         writeln!(errors, "standard input:{number}: {unreadable}")?;
     }
+    Ok(())
+}
+
+/// Whether a line attaches simulators, which may end with a carriage return.
+fn attaches(line: &[u8]) -> bool
+    ensures { result ≡ is_sim (script_line line.now) }
+{
+    match str::from_utf8(line) {
+        Ok(text) => is_sim(without_return(text)),
+        // no text is one
+        Err(_) => false,
+    }
+}
+
+/// Whether a line attaches simulators, where none may be.
+fn is_refused(rules: Rules, line: &[u8]) -> bool
+    ensures { result ≡ not rules.sims && is_sim (script_line line.now) }
+{
+    !rules.sims && attaches(line)
+}
+
+/// Refuses a line that attaches simulators, where none may be.
+fn refuse_simulators<A: Allocator + Copy, L: LiveListener<A>, E: Write>(
+    number: usize,
+    listener: &mut L,
+    errors: &mut E,
+) -> Result<(), LiveFault> {
+    listener.hear_unreadable(number)?;
+    writeln!(
+        errors,
+        "standard input:{number}: {}",
+        Unreadable::NoSimulators
+    )?;
     Ok(())
 }
 
@@ -81,26 +146,81 @@ fn answer_other<A: Allocator + Copy, L: LiveListener<A>, E: Write>(
     refuse(number, line, has_sim, listener, errors)
 }
 
-/// Takes a line, or answers one that is none of a script; then the listener is told that no more comes of it.
-fn take_line<A: Allocator + Copy, L: LiveListener<A>, E: Write>(
+/// Says on `errors` why nothing came of a line that asked the book in vain.
+fn say_unmet<A: Allocator + Copy, L: LiveListener<A>, E: Write>(
+    number: usize,
+    listener: &mut L,
+    errors: &mut E,
+) -> Result<(), LiveFault> {
+    match listener.take_unmet() {
+        Some(unmet) => {
+            Ok(writeln!(
+                errors,
+                "standard input:{number}: nothing comes of it: {unmet}"
+            )?)
+        }
+        None => Ok(()),
+    }
+}
+
+/// Takes a line, or answers one that is none of a script.
+fn take_or_answer<A: Allocator + Copy, L: LiveListener<A>, E: Write>(
     live: &mut Live<A>,
+    rules: Rules,
     number: usize,
     line: &[u8],
     listener: &mut L,
     errors: &mut E,
 ) -> Result<(), LiveFault>
     requires alone { has_peer live.old.course ≡ false }
-    ensures takes { OnOk result (Takes line.now live.old live.new) }
+    ensures takes { OnOk result (Takes rules.sims line.now live.old live.new) }
 {
+    if is_refused(rules, line) {
+        return refuse_simulators(number, listener, errors);
+    }
     if !live.take(line, listener)? {
         answer_other(number, line, live.course.has_simulators(), listener, errors)?;
     }
-    Ok(listener.hear_line_end(errors)?)
+    say_unmet(number, listener, errors)
+}
+
+/// Takes a line, or answers one that is none of a script; then the listener is told that no more comes of it, and the desk begins
+/// anew once its history is long.
+fn take_line<A: Allocator + Copy, L: LiveListener<A>, E: Write>(
+    live: &mut Live<A>,
+    rules: Rules,
+    number: usize,
+    line: &[u8],
+    listener: &mut L,
+    errors: &mut E,
+) -> Result<(), LiveFault>
+    requires alone { has_peer live.old.course ≡ false }
+    ensures takes { OnOk result (Takes rules.sims line.now live.old live.new) }
+{
+    take_or_answer(live, rules, number, line, listener, errors)?;
+    listener.hear_line_end(errors)?;
+    if live.rest(rules.entries)? {
+        listener.hear_anew(live.course.controllers.first_book(), errors)?;
+    }
+    Ok(())
+}
+
+/// Tells the listener that no other line is there for now, where that is so.
+fn tell_wait<A: Allocator + Copy, R: LineReader, L: LiveListener<A>, E: Write>(
+    reader: &R,
+    listener: &mut L,
+    errors: &mut E,
+) -> Result<(), LiveFault> {
+    if !reader.has_line() {
+        listener.hear_wait(errors)?;
+    }
+    Ok(())
 }
 
 /// Reads the next line and takes it; whether there was one.
-fn take_next<A: Allocator + Copy, R: BufRead, L: LiveListener<A>, E: Write>(
+fn take_next<A: Allocator + Copy, R: LineReader, L: LiveListener<A>, E: Write>(
     live: &mut Live<A>,
+    rules: Rules,
     number: usize,
     reader: &mut R,
     line: &mut Vec<u8, A>,
@@ -109,40 +229,42 @@ fn take_next<A: Allocator + Copy, R: BufRead, L: LiveListener<A>, E: Write>(
 ) -> Result<bool, LiveFault>
     requires alone { has_peer live.old.course ≡ false }
     ensures alone { OnOk result (has_peer live.new.course ≡ false) }
-    ensures taken { result ≡ Ok true → TakesFirst (R.remaining reader.old)
+    ensures taken { result ≡ Ok true → TakesFirst rules.sims (R.remaining reader.old)
         (R.remaining reader.new) live.old live.new }
     ensures end { result ≡ Ok false → IsAtEnd (R.remaining reader.old) }
     ensures kept { result ≡ Ok false → live.new ≡ live.old }
 {
+    tell_wait(reader, listener, errors)?;
     let found = read_next(reader, line)?;
     match found {
         Found::End => Ok(false),
         Found::Line => {
-            take_line(live, number, line, listener, errors)?;
+            take_line(live, rules, number, line, listener, errors)?;
             Ok(true)
         }
         // of such a line one octet more is kept than a line may have
         Found::TooLong => {
-            take_line(live, number, line, listener, errors)?;
+            take_line(live, rules, number, line, listener, errors)?;
             Ok(true)
         }
     }
 }
 
 /// Takes the lines of a reader to their end.
-fn take_all<A: Allocator + Copy, R: BufRead, L: LiveListener<A>, E: Write>(
+fn take_all<A: Allocator + Copy, R: LineReader, L: LiveListener<A>, E: Write>(
     alloc: A,
     live: &mut Live<A>,
+    rules: Rules,
     reader: &mut R,
     listener: &mut L,
     errors: &mut E,
 ) -> Result<(), LiveFault>
     requires alone { has_peer live.old.course ≡ false }
-    ensures all { OnOk result (TakesAll (R.remaining reader.old) live.old live.new) }
+    ensures all { OnOk result (TakesAll rules.sims (R.remaining reader.old) live.old live.new) }
 {
     let mut line = Vec::new(alloc);
-    for number in 1..usize::MAX {
-        if !take_next(live, number, reader, &mut line, listener, errors)? {
+    for number in rules.first..usize::MAX {
+        if !take_next(live, rules, number, reader, &mut line, listener, errors)? {
             return Ok(());
         }
     }
@@ -150,42 +272,47 @@ fn take_all<A: Allocator + Copy, R: BufRead, L: LiveListener<A>, E: Write>(
 }
 
 /// Takes the lines of a reader to their end, and then tells the listener what the book holds.
-fn run_to_end<A: Allocator + Copy, R: BufRead, L: LiveListener<A>, E: Write>(
+fn run_to_end<A: Allocator + Copy, R: LineReader, L: LiveListener<A>, E: Write>(
     alloc: A,
     live: &mut Live<A>,
+    rules: Rules,
     reader: &mut R,
     listener: &mut L,
     errors: &mut E,
 ) -> Result<(), LiveFault>
     requires alone { has_peer live.old.course ≡ false }
-    ensures all { OnOk result (TakesAll (R.remaining reader.old) live.old live.new) }
+    ensures all { OnOk result (TakesAll rules.sims (R.remaining reader.old) live.old live.new) }
 {
-    take_all(alloc, live, reader, listener, errors)?;
+    take_all(alloc, live, rules, reader, listener, errors)?;
     live.course.tell_ends(listener)?;
     Ok(listener.hear_line_end(errors)?)
 }
 
-/// Runs a controller of a site by the lines of a reader, each as it comes, from the empty book on: what a line gives is handled
-/// at once, and the listener is told what came of it, and that no more does, before the next line is read.
+/// Runs a controller by the lines of a reader, each as it comes, from a book on: what a line gives is handled at once, and the
+/// listener is told what came of it, and that no more does, before the next line is read.
 ///
 /// A line is read as one of a script for one controller; its last one needs no line feed. One that can't be read changes
-/// nothing: the listener is told its number, counted from 1, and `errors` why; but of the line `summary` it is asked to
-/// tell what it counted. At the end of the reader the listener is told what the book holds. Where the reader's octets are
-/// known, the inputs that were handled are those of exactly the lines that can be read, in their order, however the reader
-/// cuts them; all other inputs are a simulator's by their source.
+/// nothing: the listener is told its number, counted on from that of the first, and `errors` why; but of the line `summary` it
+/// is asked to tell what it counted. Where the rules allow no simulators, a line that attaches them can't be read. The listener
+/// is told where the reader has no other line yet. Behind a line with which the desk's history has as many entries as the rules
+/// say, the desk begins anew, and the listener is told. At the end of the reader the listener is told what the book holds. Where
+/// the reader's octets are known, what was handled is what exactly the lines that can be read give, in their order, however the
+/// reader cuts them; all other inputs are a simulator's by their source. Of a line that asks the book in vain `errors` is told
+/// why.
 ///
 /// `NoMemory`: memory was refused; the listener was told what is owed. `Write`: the listener or `errors` couldn't write. `Read`:
 /// the reader failed. After any of them what came before was handled.
-pub fn live_run<A: Allocator + Copy, R: BufRead, L: LiveListener<A>, E: Write>(
+pub fn live_run<A: Allocator + Copy, R: LineReader, L: LiveListener<A>, E: Write>(
     alloc: A,
-    site: Site<A>,
+    book: Book<A>,
+    rules: Rules,
     reader: &mut R,
     listener: &mut L,
     errors: &mut E,
 ) -> Result<(), LiveFault>
     ensures handled { OnOk result (IfSome (R.remaining reader.old) (λ octets.
-        Played A (site ∷ []) (inputs_from false octets))) }
+        Played A book (items_from rules.sims false octets))) }
 {
-    let mut live = Live::new(alloc, site)?;
-    run_to_end(alloc, &mut live, reader, listener, errors)
+    let mut live = Live::over(alloc, book)?;
+    run_to_end(alloc, &mut live, rules, reader, listener, errors)
 }

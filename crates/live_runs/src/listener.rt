@@ -1,6 +1,7 @@
 //! Who hears what comes of lines as they come.
 use cell_table::SiteFault;
 use ho_procedure::exchange::Outbound;
+use lab_runs::asked::Unmet;
 use lab_runs::listener::{Listener, Printing};
 use lab_runs::run::LabFault;
 use lab_runs::turn::Turn;
@@ -14,6 +15,21 @@ pub trait LiveListener<A: Allocator + Copy>: Listener<A> {
     /// No more comes of this line: what was heard so far is handed on. What is to be told a person goes to `errors`.
     fn hear_line_end<E: Write>(&mut self, errors: &mut E) -> Result<(), LabFault>;
 
+    /// Why nothing came of the line, where it asked its controller's book in vain. It is told once.
+    fn take_unmet(&mut self) -> Option<Unmet> {
+        None
+    }
+
+    /// No other line is there for now: what was held back leaves. What is to be told a person goes to `errors`.
+    fn hear_wait<E: Write>(&mut self, _errors: &mut E) -> Result<(), LabFault> {
+        Ok(())
+    }
+
+    /// The desk began anew with this book. What is to be told a person goes to `errors`.
+    fn hear_anew<E: Write>(&mut self, _book: &Book<A>, _errors: &mut E) -> Result<(), LabFault> {
+        Ok(())
+    }
+
     /// A line asks what came so far, counted. The answer is whether it was told: who counts nothing doesn't.
     fn hear_summary(&mut self) -> Result<bool, LabFault> {
         Ok(false)
@@ -24,16 +40,23 @@ pub trait LiveListener<A: Allocator + Copy>: Listener<A> {
 #[derive(Drop)]
 pub struct LivePrinting<'a, W: Write> {
     out: &'a mut W,
+    /// Why nothing came of the line, where it asked in vain.
+    unmet: Option<Unmet>,
 }
 
 impl<'a, W: Write> LivePrinting<'a, W> {
     /// One that prints it to `out`.
     pub fn new(out: &'a mut W) -> LivePrinting<'a, W> {
-        LivePrinting { out }
+        LivePrinting { out, unmet: None }
     }
 }
 
 impl<W: Write, A: Allocator + Copy> Listener<A> for LivePrinting<'_, W> {
+    fn hear_unmet(&mut self, unmet: Unmet) -> Result<(), LabFault> {
+        self.unmet = Some(unmet);
+        Ok(())
+    }
+
     fn hear_turn(&mut self, mark: Mark, turn: &Turn<A>, book: &Book<A>) -> Result<(), LabFault> {
         Printing::new(self.out).hear_turn(mark, turn, book)
     }
@@ -62,5 +85,9 @@ impl<W: Write, A: Allocator + Copy> Listener<A> for LivePrinting<'_, W> {
 impl<W: Write, A: Allocator + Copy> LiveListener<A> for LivePrinting<'_, W> {
     fn hear_line_end<E: Write>(&mut self, _errors: &mut E) -> Result<(), LabFault> {
         Ok(self.out.flush()?)
+    }
+
+    fn take_unmet(&mut self) -> Option<Unmet> {
+        self.unmet.take()
     }
 }

@@ -1,17 +1,17 @@
 //! A live controller: it is given its lines one by one.
 ghost use Rattle.std.specs.Prelude.{◌≡◌, ◌∷◌, [], ◌||◌, true, false, IfOk, OnOk};
 ghost use Rattle.lab_script.specs.Script.{is_item_there};
-ghost use Rattle.lab_runs.specs.Turns.{inputs_in, is_attach};
-ghost use Rattle.lab_runs.specs.Course.{AreOpenings, positions_of, has_peer, has_simulators};
+ghost use Rattle.lab_runs.specs.Turns.{is_attach};
+ghost use Rattle.lab_runs.specs.Course.{BeginsWith, IsAnewAt, has_peer, has_simulators};
 ghost use Rattle.live_runs.specs.Lines.{can_be_read};
-ghost use Rattle.live_runs.specs.Live.{Goes, Takes};
+ghost use Rattle.live_runs.specs.Live.{Goes, Rests, Takes};
 
 use crate::line::{Said, read_line};
-use cell_table::Site;
 use lab_runs::course::Course;
 use lab_runs::listener::Listener;
-use lab_runs::run::{LabFault, Sites, fresh_course};
+use lab_runs::run::LabFault;
 use lab_script::script::Item;
+use radio_book::book::Book;
 use std::alloc::{AllocError, Allocator, Global};
 
 /// A controller that is given its lines one by one, and the simulators around it once a line attached them. What came of a
@@ -24,26 +24,34 @@ pub struct Live<A: Allocator + Copy = Global> {
 }
 
 impl<A: Allocator + Copy> Live<A> {
-    /// A controller of the site over an empty book, which was given nothing yet. No simulators are attached.
-    pub fn new(alloc: A, site: Site<A>) -> Result<Live<A>, AllocError>
-        ensures opening { IfOk result (λ live. AreOpenings (site ∷ []) (positions_of live.course.controllers)) }
+    /// A controller over a book, which was given nothing yet. No simulators are attached.
+    pub fn over(alloc: A, book: Book<A>) -> Result<Live<A>, AllocError>
+        ensures opening { IfOk result (λ live. BeginsWith book live.course.controllers.first) }
         ensures peer { IfOk result (λ live. has_peer live.course ≡ false) }
         ensures sim { IfOk result (λ live. has_simulators live.course ≡ false) }
     {
-        let sites = Sites {
-            first: site,
-            peer: None,
-        };
         Ok(Live {
-            course: fresh_course(alloc, sites)?,
+            course: Course::over(alloc, book)?,
             alloc,
         })
+    }
+
+    /// Its desk begins anew with today's book, where its history has so many entries. The answer is whether it did.
+    pub fn rest(&mut self, entries: usize) -> Result<bool, AllocError>
+        ensures rested { OnOk result (Rests self.old self.new) }
+        ensures anew { result ≡ Ok true → IsAnewAt self.old.course.controllers.first self.new.course.controllers.first }
+    {
+        if self.course.controllers.first_entries() < entries {
+            return Ok(false);
+        }
+        self.course.begin_anew()?;
+        Ok(true)
     }
 
     /// Does what a line gives, and then what simulators answer to that, until nothing of it is left.
     fn follow<L: Listener<A>>(&mut self, item: Item<A>, listener: &mut L) -> Result<(), LabFault>
         requires there { is_item_there (has_peer self.old.course) item ≡ true }
-        ensures goes { OnOk result (Goes (inputs_in (item ∷ [])) self.old self.new) }
+        ensures goes { OnOk result (Goes (item ∷ []) self.old self.new) }
         ensures sim { OnOk result (has_simulators self.new.course ≡
             is_attach item.given || has_simulators self.old.course) }
     {
@@ -59,7 +67,7 @@ impl<A: Allocator + Copy> Live<A> {
     /// than that what it asked of its book stands. What it owes was told.
     pub fn take<L: Listener<A>>(&mut self, line: &[u8], listener: &mut L) -> Result<bool, LabFault>
         requires alone { has_peer self.old.course ≡ false }
-        ensures takes { OnOk result (Takes line.now self.old self.new) }
+        ensures takes { OnOk result (Takes true line.now self.old self.new) }
         ensures read { IfOk result (λ read. read ≡ can_be_read (has_simulators self.old.course) line.now) }
         ensures unreadable { result ≡ Ok false → self.new ≡ self.old }
     {

@@ -3,7 +3,7 @@
 //! No clause says what is said: that a line can't be read is said in `line`, by the rules of scripts.
 use decoded_lines::LONGEST_LINE;
 use lab_script::script::without_return;
-use script_reasons::{Fault, Reason, line_reason, script_reason};
+use script_reasons::{Fault, LoneReason, Reason, line_reason, script_reason};
 use std::{fmt, str};
 
 /// Why a line can't be read.
@@ -15,6 +15,8 @@ pub enum Unreadable<'a> {
     NotText(usize),
     /// It is for a second controller, which a script may have.
     ForPeer,
+    /// It attaches simulators where none may be: what they have isn't in a journal.
+    NoSimulators,
     /// It is no line of a script, or asks something of simulators that aren't there.
     NotScript(Reason<'a>),
 }
@@ -27,7 +29,13 @@ impl fmt::Display for Unreadable<'_> {
             Unreadable::ForPeer => {
                 write!(f, "2: is for a second controller, and live runs one alone")
             }
-            Unreadable::NotScript(reason) => write!(f, "{reason}"),
+            Unreadable::NoSimulators => {
+                write!(
+                    f,
+                    "simulators can't be attached to a controller with a journal"
+                )
+            }
+            Unreadable::NotScript(reason) => write!(f, "{}", LoneReason(*reason)),
         }
     }
 }

@@ -3,13 +3,15 @@
 mod viewed;
 
 use cell_table::Site;
-use live_runs::{LiveFault, LivePrinting, live_run};
+use live_runs::{LiveFault, LivePrinting, Rules, live_run};
+use radio_book::book::Book;
 use refusing_heap::RefusingHeap;
 use sample_sites::THREE_CHANNELS as SITE;
 use std::alloc::{AllocError, Global};
 use std::io::{self, BufReader, ErrorKind, Read};
 use std::process::Abort;
 use std::str;
+use std::sync::Arc;
 use std::test::Fail;
 
 /// Lines of a handover, and what they print.
@@ -67,20 +69,42 @@ fn owed_in(rt: &impl Abort, printed: &str) -> usize {
     count
 }
 
+/// How lines are taken here: the desk begins anew soon.
+const RULES: Rules = Rules {
+    first: 1,
+    entries: 3,
+    sims: true,
+};
+
+/// The empty book of the site.
+fn fresh_book<'a>(
+    heap: &'a RefusingHeap,
+    alloc: Global,
+) -> Result<Book<&'a RefusingHeap>, LiveFault> {
+    match Site::read(heap, alloc, SITE) {
+        Ok(site) => {
+            let site = Arc::new(heap, site).map_err(AllocError::from)?;
+            Ok(Book::new(heap, site)?)
+        }
+        Err(_) => Err(LiveFault::NoMemory),
+    }
+}
+
 /// Runs the lines over a heap; how that ended, and what it printed.
 fn run_over(
     alloc: Global,
     heap: &RefusingHeap,
 ) -> Result<(Result<(), LiveFault>, Vec<u8>), AllocError> {
     let mut out = Vec::new(alloc);
-    let site = match Site::read(heap, alloc, SITE) {
-        Ok(site) => site,
-        Err(_) => return Ok((Err(LiveFault::NoMemory), out)),
+    let book = match fresh_book(heap, alloc) {
+        Ok(book) => book,
+        Err(fault) => return Ok((Err(fault), out)),
     };
     let mut input = LINES.as_bytes();
     let ended = live_run(
         heap,
-        site,
+        book,
+        RULES,
         &mut input,
         &mut LivePrinting::new(&mut out),
         &mut io::sink(),
@@ -154,11 +178,13 @@ fn run_by(alloc: Global, reader: Piecewise<'_>) -> Result<(Result<(), LiveFault>
         Ok(site) => site,
         Err(_) => return Err(Fail::from("no site")),
     };
+    let book = Book::new(alloc, Arc::new(alloc, site)?)?;
     let mut out = Vec::new(alloc);
     let mut reader = BufReader::with_capacity(alloc, 7, reader)?;
     let ended = live_run(
         alloc,
-        site,
+        book,
+        RULES,
         &mut reader,
         &mut LivePrinting::new(&mut out),
         &mut io::sink(),

@@ -9,9 +9,9 @@ use Rattle.radio_book.specs.declared.rewind.Rewound.{Rewound}
 use Rattle.radio_book.specs.State.{State, empty_book}
 use Rattle.radio_book.specs.Undone.{Undone, IsUndoneAt, OpensUndone}
 use Rattle.radio_book.specs.NoTrace.{LeavesNoTrace}
-use Rattle.read_traces.specs.declared.entries.Entry.{Entry}
-use Rattle.read_traces.specs.Entries.{first_unreadable, entries_of}
-use Rattle.read_traces.specs.Entries as said
+use Rattle.trace_entries.specs.declared.entries.Entry.{Entry}
+use Rattle.trace_entries.specs.Entries.{first_unreadable, entries_of}
+use Rattle.trace_entries.specs.Entries as said
 
 -- at this place of the entries stands the one of this line, counted from 1
 abbrev pub StandsIn : List Entry → ℕ → ℕ → Type 0

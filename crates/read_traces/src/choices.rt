@@ -3,7 +3,6 @@
 //! At which rate a channel was asked for isn't in a trace. So its inputs are handled again: where the same events come of
 //! them, the choices are those of that run. Of another trace, as of one that a person wrote, the events that take a channel
 //! are its choices.
-use crate::entries::Entry;
 use crate::reading::Told;
 use cell_table::SiteFault;
 use lab_runs::course::Run;
@@ -14,6 +13,7 @@ use radio_book::event::Event;
 use remainders::{AskedLines, Choice, choices_in, taken_in};
 use std::alloc::{AllocError, Allocator, Global};
 use std::io;
+use trace_entries::entries::Entry;
 use trace_text::trace::Step;
 
 /// The texts of a site and of a trace, and memory that serves while the site's is read.

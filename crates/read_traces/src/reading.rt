@@ -1,9 +1,8 @@
 //! A trace that is read back over the empty book of a site, from which all its replies come.
 ghost use Rattle.std.specs.Prelude.{◌≡◌, IfOk, IfErr, IfSome};
 ghost use Rattle.radio_book.specs.State.{empty_book};
-ghost use Rattle.read_traces.specs.Entries as said;
+ghost use Rattle.trace_entries.specs.Entries as said;
 
-use crate::entries::{Entry, Foreign, entries_of, first_other};
 use cell_table::{Site, SiteFault};
 use lab_runs::run::{LabFault, Status};
 use radio_book::book::Book;
@@ -12,6 +11,7 @@ use radio_book::run::run;
 use std::alloc::{AllocError, Allocator, Global};
 use std::io::Write;
 use std::sync::Arc;
+use trace_entries::entries::{Entry, Foreign, entries_of, first_other};
 
 /// What a trace tells.
 #[derive(Drop)]

@@ -1,13 +1,13 @@
 //! Why a trace can't be read back: one line for a person.
 //!
 //! No clause says what the line holds.
-use crate::entries::{Foreign, first_unreadable, reply_text};
 use crate::reading::foreign_entry;
 use encoded_messages::Shown;
 use lab_runs::run::LabFault;
 use screen_text::Escaped;
 use std::alloc::Global;
 use std::io::{self, Write};
+use trace_entries::entries::{Foreign, first_unreadable, reply_text};
 use trace_text::trace::ReplyText;
 
 /// A line of a trace, counted from 1.

@@ -3,11 +3,10 @@ ghost use Rattle.std.specs.Prelude.{◌≡◌, ◌≢◌, ◌↔◌, ◌+◌, �
 ghost use Rattle.cell_table.specs.SiteFile.{IsBlankFile};
 ghost use Rattle.radio_book.specs.State.{empty_book};
 ghost use Rattle.radio_book.specs.NoTrace.{LeavesNoTrace};
-ghost use Rattle.read_traces.specs.Entries as said;
+ghost use Rattle.trace_entries.specs.Entries as said;
 ghost use Rattle.read_traces.specs.Rewound.{AreSameReplies, IsSame, StandsIn, LeavesATrace, NoneOpens, InEntries, InTrace};
 
 use crate::choices::{Texts, choices_of_trace, event_lines};
-use crate::entries::{Entry, first_unreadable};
 use crate::reading::{fresh_book, refuse_line, told_entries};
 use cell_table::Site;
 use lab_runs::listener::Printing;
@@ -19,6 +18,7 @@ use radio_desk::entry::is_same_reply;
 use remainders::{Choice, other_choices, print_choices, print_difference};
 use std::alloc::{Allocator, Global};
 use std::io::Write;
+use trace_entries::entries::{Entry, first_unreadable};
 use trace_text::trace::Mark;
 
 /// What a trace tells, over a book: its entries, their events, and which of its lines are choices.

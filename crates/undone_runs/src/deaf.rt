@@ -1,10 +1,10 @@
-//! A listener that hears one thing alone.
+//! Listeners that hear few things.
 use cell_table::SiteFault;
 use lab_runs::listener::Listener;
 use lab_runs::run::LabFault;
 use lab_runs::turn::Turn;
 use radio_book::book::Book;
-use std::alloc::Allocator;
+use std::alloc::{AllocError, Allocator};
 use std::io;
 use trace_text::trace::Mark;
 
@@ -23,6 +23,54 @@ impl Deaf {
 
 impl<A: Allocator + Copy> Listener<A> for Deaf {
     fn hear_turn(&mut self, _mark: Mark, _turn: &Turn<A>, _book: &Book<A>) -> Result<(), LabFault> {
+        Ok(())
+    }
+
+    fn hear_limit(&mut self) -> Result<(), LabFault> {
+        Ok(())
+    }
+
+    fn hear_end(&mut self, _mark: Mark, _book: &Book<A>) -> Result<(), LabFault> {
+        Ok(())
+    }
+
+    fn hear_no_site(&mut self, _fault: SiteFault) -> io::Result<()> {
+        Ok(())
+    }
+
+    fn hear_unreadable(&mut self, line: usize) -> io::Result<()> {
+        self.unreadable = Some(line);
+        Ok(())
+    }
+}
+
+/// A listener that hears where the inputs of each line begin among all, and which line of a script can't be read.
+#[derive(Drop)]
+pub(crate) struct LineStarts<A: Allocator + Copy> {
+    /// Of each line that gives something: how many inputs were handled before it.
+    pub(crate) starts: Vec<usize, A>,
+    handled: usize,
+    pub(crate) unreadable: Option<usize>,
+}
+
+impl<A: Allocator + Copy> LineStarts<A> {
+    /// One that heard nothing yet.
+    pub(crate) fn new(alloc: A) -> LineStarts<A> {
+        LineStarts {
+            starts: Vec::new(alloc),
+            handled: 0,
+            unreadable: None,
+        }
+    }
+}
+
+impl<A: Allocator + Copy> Listener<A> for LineStarts<A> {
+    fn hear_item(&mut self) -> Result<(), LabFault> {
+        Ok(self.starts.push(self.handled).map_err(AllocError::from)?)
+    }
+
+    fn hear_turn(&mut self, _mark: Mark, _turn: &Turn<A>, _book: &Book<A>) -> Result<(), LabFault> {
+        self.handled = self.handled.saturating_add(1);
         Ok(())
     }
 

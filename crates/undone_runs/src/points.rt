@@ -1,6 +1,6 @@
 //! The points of a run at which attempts are open.
 use crate::interrupted::Interruption;
-use lab_runs::turn::Turn;
+use lab_runs::turn::{Source, Turn};
 use lab_script::script::Side;
 use radio_book::event::{Event, Reply};
 use std::alloc::{AllocError, Allocator, Global};
@@ -129,18 +129,30 @@ impl<A: Allocator + Copy> OpenAttempts<A> {
     }
 }
 
-/// The points of a run at which an attempt is open: behind each input, each such attempt, in the order in which they opened.
+/// Whether the line that gave the last of so many inputs gives another at once, so that nobody comes between the two: the next is
+/// one of the script, and no line begins there.
+fn is_within<A: Allocator>(next: Option<&Turn<A>>, starts: &[usize], behind: usize) -> bool {
+    match next {
+        Some(turn) => turn.source == Source::Script && !starts.contains(&behind),
+        None => false,
+    }
+}
+
+/// The points of a run at which an attempt is open: behind each input, each such attempt, in the order in which they opened; but
+/// not between the inputs that one line gives at once. Before the inputs of each line there are as many as `starts` says.
 pub fn points_of<A: Allocator + Copy>(
     alloc: A,
     turns: &[Turn<A>],
+    starts: &[usize],
 ) -> Result<Vec<Point, A>, AllocError> {
     let mut open = OpenAttempts::new(alloc);
     let mut points = Vec::new(alloc);
-    let mut behind = 0_usize;
-    for turn in turns {
-        behind = behind.saturating_add(1);
+    for (place, turn) in turns.iter().enumerate() {
+        let behind = place.saturating_add(1);
         open.go_on(turn)?;
-        open.add_points(behind, &mut points)?;
+        if !is_within(turns.get(behind), starts, behind) {
+            open.add_points(behind, &mut points)?;
+        }
     }
     Ok(points)
 }

@@ -1,5 +1,5 @@
 //! A script in which each attempt is taken back at each point.
-use crate::deaf::Deaf;
+use crate::deaf::LineStarts;
 use crate::interrupted::{Interruption, play_interrupted};
 use crate::points::{Point, points_of};
 use crate::printed::{Sort, Tally, VerdictText, print_verdict};
@@ -41,10 +41,10 @@ fn run_of<A: Allocator + Copy>(
     alloc: A,
     scratch: Global,
     trial: Trial<'_>,
-    deaf: &mut Deaf,
+    lines: &mut LineStarts<A>,
 ) -> Result<Option<Run<A>>, LabFault> {
     match sites_of(alloc, scratch, trial)? {
-        Some(sites) => play(alloc, sites, trial.script, deaf),
+        Some(sites) => play(alloc, sites, trial.script, lines),
         None => Ok(None),
     }
 }
@@ -187,10 +187,11 @@ fn try_run<A: Allocator + Copy, W: Write>(
     scratch: Global,
     trial: Trial<'_>,
     run: Run<A>,
+    starts: &[usize],
     tally: &mut Tally,
     out: &mut W,
 ) -> Result<Status, LabFault> {
-    let points = points_of(alloc, &run.turns)?;
+    let points = points_of(alloc, &run.turns, starts)?;
     try_points(alloc, scratch, trial, &points, tally, out)
 }
 
@@ -207,7 +208,8 @@ fn refuse<W: Write>(
     Ok(Status::Refused)
 }
 
-/// Plays a script once more for each attempt and each input behind which it is open, the simulators' answers too: there an
+/// Plays a script once more for each attempt and each input behind which it is open, the simulators' answers too, but not between
+/// those that one line gives at once: there an
 /// operator takes it back, and it is taken out of what came of that run ([`verdict_of`]). Prints a test of TAP for each: the
 /// point, and whether nothing differs without the attempt, else what does; and beside it which event was refused for what it
 /// held, or that the release of its channel is awaited. Where neither is so, nothing differs. `tally` counts them all.
@@ -223,10 +225,10 @@ pub fn try_undos<A: Allocator + Copy, W: Write>(
     tally: &mut Tally,
     out: &mut W,
 ) -> Result<Status, LabFault> {
-    let mut deaf = Deaf::new();
-    let run = run_of(alloc, scratch, trial, &mut deaf)?;
+    let mut lines = LineStarts::new(alloc);
+    let run = run_of(alloc, scratch, trial, &mut lines)?;
     match run {
-        Some(run) => try_run(alloc, scratch, trial, run, tally, out),
-        None => refuse(trial.name, deaf.unreadable, tally, out),
+        Some(run) => try_run(alloc, scratch, trial, run, &lines.starts, tally, out),
+        None => refuse(trial.name, lines.unreadable, tally, out),
     }
 }

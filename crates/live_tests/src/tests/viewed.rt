@@ -1,7 +1,6 @@
 //! What is printed with words and with what the book holds, where memory is refused: what the controller owes of a line is
 //! printed as in a trace without views.
-use super::{SITE, common_lines, holds};
-use cell_table::Site;
+use super::{RULES, common_lines, fresh_book, holds};
 use ho_procedure::exchange::Outbound;
 use lab_runs::listener::Listener;
 use lab_runs::run::LabFault;
@@ -20,6 +19,7 @@ use trace_text::trace::Mark;
 const VIEWS: Views<'_> = Views {
     words: true,
     state: true,
+    decisions: false,
     pcap: None,
     chart: None,
     summary: None,
@@ -133,16 +133,13 @@ fn run_over<R: Files + AllocGlobal, W: Write, E: Write>(
     out: &mut W,
     errors: &mut E,
 ) -> Result<(), LiveFault> {
-    let site = match Site::read(heap, rt.alloc(), SITE) {
-        Ok(site) => site,
-        Err(_) => return Err(LiveFault::NoMemory),
-    };
+    let book = fresh_book(heap, rt.alloc())?;
     let Some(sheets) = open_sheets(rt, views, out, errors)? else {
         return Err(LiveFault::Write);
     };
     let mut viewer = LiveViewer::new(heap, views, sheets, out, errors)?;
     let mut input = LINES.as_bytes();
-    let ended = live_run(heap, site, &mut input, &mut viewer, errors);
+    let ended = live_run(heap, book, RULES, &mut input, &mut viewer, errors);
     let written = viewer.finish(errors);
     ended?;
     Ok(written?)

@@ -7,5 +7,5 @@ use Rattle.live_runs.proofs.lines.take_all.Given as goal
 abbrev pub invariant-loop-number : goal.invariant-loop-number
 invariant-loop-number g l = record {
   alone : has_peer l.live.course ≡ false;
-  follows : Follows (g.R.Read.remaining l.initial.reader) (g.R.Read.remaining l.reader) l.initial.live l.live;
+  follows : Follows l.initial.rules.sims (g.R.Read.remaining l.initial.reader) (g.R.Read.remaining l.reader) l.initial.live l.live;
 }

@@ -1,0 +1,4 @@
+pub mod Checksum
+pub mod Numerals
+pub mod Records
+pub mod Files

@@ -1,0 +1,2 @@
+-- one record more
+pub mod Steps

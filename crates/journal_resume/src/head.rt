@@ -1,0 +1,120 @@
+//! The head of a journal's file that is begun: of which site it is, and the events that lead to the book with which it begins.
+ghost use Rattle.std.specs.Prelude.{◌≡◌, ◌++◌, ◌↔◌, IsTrue, string_bytes, IfOk, OnOk};
+ghost use Rattle.radio_book.specs.State.{empty_book};
+ghost use Rattle.radio_book.specs.Run.{run_book};
+ghost use Rattle.trace_entries.specs.Entries.{entries_of, events_of};
+ghost use Rattle.journal_resume.specs.Heads as spec;
+
+use crate::traces::ask_trace;
+use event_text::writing::EventText;
+use opening_events::{OpeningFault, events_to};
+use radio_book::book::Book;
+use radio_book::event::{Event, Reply};
+use radio_book::run::run;
+use std::alloc::{AllocError, Allocator};
+use thiserror::Error;
+use trace_entries::replies::ReplyText;
+
+/// Why no head is made for a book.
+#[derive(Clone, Copy, Debug, PartialEq, Eq, Error)]
+pub enum HeadFault {
+    /// The events that are known to lead to a book lead to another one.
+    #[error("no events are known that lead to the book")]
+    Differs,
+    /// Memory was refused.
+    #[error("memory was refused")]
+    NoMemory,
+}
+
+impl From<AllocError> for HeadFault {
+    ghost use Rattle.std.specs.Prelude.{◌≡◌};
+    ghost use Rattle.journal_resume.specs.declared.head.HeadFault.TheVariants.{NoMemory};
+
+    ghost from_gives = { λ _ fault. fault ≡ NoMemory };
+
+    fn from(_: AllocError) -> HeadFault {
+        HeadFault::NoMemory
+    }
+}
+
+impl From<OpeningFault> for HeadFault {
+    fn from(fault: OpeningFault) -> HeadFault {
+        match fault {
+            OpeningFault::Differs => HeadFault::Differs,
+            OpeningFault::NoMemory => HeadFault::NoMemory,
+        }
+    }
+}
+
+/// The line that names a site by its checksum.
+pub(crate) fn site_line<A: Allocator + Copy>(alloc: A, sum: u32) -> Result<String<A>, AllocError>
+    ensures { IfOk result (λ line. string_bytes line ≡ spec.site_line sum) }
+{
+    format!(in alloc; "site {sum}\n")
+}
+
+/// The lines of events with their replies, as a trace has them.
+fn event_lines<A: Allocator + Copy>(
+    alloc: A,
+    events: &[Event],
+    replies: &[Reply],
+) -> Result<String<A>, AllocError> {
+    let mut lines = String::new(alloc);
+    for (event, reply) in events.iter().zip(replies.iter()) {
+        let line = format!(in alloc; "event {} -> {}\n", EventText(*event), ReplyText(*reply))?;
+        lines.push_str(line.as_str())?;
+    }
+    Ok(lines)
+}
+
+/// A line, and what follows it.
+fn joined<A: Allocator + Copy>(mut line: String<A>, behind: &str) -> Result<String<A>, AllocError>
+    ensures { IfOk result (λ text. string_bytes text ≡ string_bytes line ++ behind.now) }
+{
+    line.push_str(behind)?;
+    Ok(line)
+}
+
+/// The text of a head: the line of the site, and those of the events that are known to lead to the book.
+fn head_text<A: Allocator + Copy>(
+    alloc: A,
+    site_sum: u32,
+    book: &Book<A>,
+) -> Result<String<A>, HeadFault>
+    ensures { IfOk result (λ text. spec.BeginsWithLine (spec.site_line site_sum) (string_bytes text)) }
+{
+    let events = events_to(alloc, book)?;
+    let empty = Book::new(alloc, book.site().clone()?)?;
+    let (_after, replies) = run(alloc, &empty, &events)?;
+    let lines = event_lines(alloc, &events, &replies)?;
+    let line = site_line(alloc, site_sum)?;
+    Ok(joined(line, lines.as_str())?)
+}
+
+/// Whether a trace leads from the empty book of a book's site to that book, reply by reply.
+fn leads_to<A: Allocator + Copy>(alloc: A, trace: &str, book: &Book<A>) -> Result<bool, AllocError>
+    ensures { IfOk result (λ leads. IsTrue leads → spec.LeadsTo trace.now book.now) }
+{
+    let mut after = Book::new(alloc, book.site().clone()?)?;
+    let same_replies = ask_trace(alloc, &mut after, trace)?;
+    Ok(same_replies && after == *book)
+}
+
+/// The body of the first record of a file that begins with a book: the site's checksum, and a trace that leads from the empty
+/// book of the site to the book. What is answered was read back, and asked once more: where that leads to another book,
+/// nothing is answered (`Differs`).
+pub fn head_body<A: Allocator + Copy>(
+    alloc: A,
+    site_sum: u32,
+    book: &Book<A>,
+) -> Result<String<A>, HeadFault>
+    ensures site { IfOk result (λ body. spec.BeginsWithLine (spec.site_line site_sum) (string_bytes body)) }
+    ensures leads { IfOk result (λ body. spec.LeadsTo (string_bytes body) book.now) }
+{
+    let text = head_text(alloc, site_sum, book)?;
+    if leads_to(alloc, text.as_str(), book)? {
+        Ok(text)
+    } else {
+        Err(HeadFault::Differs)
+    }
+}

@@ -1,0 +1,124 @@
+//! A journal's file as a whole.
+ghost use Rattle.std.specs.Prelude.{◌≡◌, ◌++◌, OnOk, IfOk, IsTrue};
+ghost use Rattle.radio_book.specs.State.{empty_book};
+ghost use Rattle.radio_book.specs.Run.{run_book};
+ghost use Rattle.trace_entries.specs.Entries.{entries_of, events_of};
+ghost use Rattle.journal_records.specs.Records.{BeginsWith};
+ghost use Rattle.journal_resume.specs.Heads as heads;
+ghost use Rattle.journal_resume.specs.Resume.{IsJournal};
+
+use crate::head::site_line;
+use crate::resuming::{ResumeFault, Resumed, follow_records, take_record};
+use cell_table::Site;
+use journal_records::{FileFault, Record, RecordFault, behind_first_line, first_record};
+use radio_book::book::Book;
+use std::alloc::{AllocError, Allocator};
+use std::sync::Arc;
+use thiserror::Error;
+
+/// Why a file isn't read as a journal to its end.
+#[derive(Clone, Copy, Debug, PartialEq, Eq, Error)]
+pub enum WholeFault {
+    /// It isn't one of this version.
+    #[error("{0}")]
+    File(FileFault),
+    /// It has no record of a place of its octets, counted from 0, and none that was cut.
+    #[error("octet {0}: the record is damaged")]
+    Damaged(usize),
+}
+
+/// Whether a text begins with a line.
+fn begins_with(line: &[u8], text: &[u8]) -> bool
+    ensures { IsTrue result → heads.BeginsWithLine line.now text.now }
+{
+    if text.len() < line.len() {
+        return false;
+    }
+    let (front, _behind) = text.split_at(line.len());
+    front == line
+}
+
+/// The head with which the records of a file begin, and which has this number.
+fn head_at<'a>(octets: &'a [u8], number: u64) -> Result<Record<'a>, ResumeFault>
+    ensures { IfOk result (λ r. BeginsWith octets.now number r.body.now r.behind.now) }
+{
+    let head = match first_record(octets) {
+        Ok(head) => head,
+        Err(RecordFault::Cut | RecordFault::Damaged) => return Err(ResumeFault::NoHead),
+    };
+    if head.number == number {
+        Ok(head)
+    } else {
+        Err(ResumeFault::Renamed)
+    }
+}
+
+/// Whether a head is of the site with a checksum.
+fn is_of_site<A: Allocator + Copy>(
+    alloc: A,
+    site_sum: u32,
+    head: Record<'_>,
+) -> Result<bool, AllocError>
+    ensures { IfOk result (λ is. IsTrue is →
+        heads.BeginsWithLine (heads.site_line site_sum) head.entry.body.now) }
+{
+    let line = site_line(alloc, site_sum)?;
+    Ok(begins_with(line.as_bytes(), head.body))
+}
+
+/// The book of a head: that of its events, from the empty book of the site on.
+fn book_of_head<A: Allocator + Copy>(
+    alloc: A,
+    site: Arc<Site<A>, A>,
+    head: Record<'_>,
+) -> Result<Book<A>, ResumeFault>
+    ensures { IfOk result (λ book.
+        book ≡ run_book (empty_book site.value) (events_of (entries_of head.entry.body.now))) }
+{
+    let mut book = Book::new(alloc, site)?;
+    take_record(alloc, &mut book, head.number, head)?;
+    Ok(book)
+}
+
+/// The book of a journal's file, which has this number in its name: that of the events of its head and of all its records, one
+/// after another, from the empty book of the site on. Each reply is compared with the one that the file has. A record at the end
+/// that was cut is left.
+///
+/// A fault has the number of the first record that can't be taken.
+pub fn resume<'a, A: Allocator + Copy>(
+    alloc: A,
+    site: Arc<Site<A>, A>,
+    site_sum: u32,
+    number: u64,
+    octets: &'a [u8],
+) -> Result<Resumed<'a, A>, ResumeFault>
+    ensures journal { IfOk result (λ r. IsJournal site_sum site.value number octets.now r.book r.last r.left.now) }
+{
+    let records = match behind_first_line(octets) {
+        Ok(records) => records,
+        Err(fault) => return Err(ResumeFault::File(fault)),
+    };
+    let head = head_at(records, number)?;
+    if !is_of_site(alloc, site_sum, head)? {
+        return Err(ResumeFault::AnotherSite);
+    }
+    let opening = book_of_head(alloc, site, head)?;
+    follow_records(alloc, opening, number, head.behind)
+}
+
+/// The octets of a journal's file without a record at the end that was cut. Each record before it has its checksums.
+pub fn whole_octets(octets: &[u8]) -> Result<&[u8], WholeFault> {
+    let mut left = match behind_first_line(octets) {
+        Ok(records) => records,
+        Err(fault) => return Err(WholeFault::File(fault)),
+    };
+    for _ in 0..u64::MAX {
+        let place = octets.len().saturating_sub(left.len());
+        match first_record(left) {
+            Ok(taken) => left = taken.behind,
+            Err(RecordFault::Damaged) => return Err(WholeFault::Damaged(place)),
+            Err(RecordFault::Cut) => return Ok(octets.split_at(place.min(octets.len())).0),
+        }
+    }
+    Ok(octets)
+}

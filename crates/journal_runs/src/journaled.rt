@@ -1,0 +1,232 @@
+//! A listener that notes what it hears in a journal, and has another listener hear it, too.
+use cell_table::SiteFault;
+use ho_procedure::exchange::Outbound;
+use journal_files::{BeginFault, Journal, Lost, WhenLost};
+use journal_resume::{HeadFault, head_body};
+use lab_runs::asked::Unmet;
+use lab_runs::listener::{Listener, Printing};
+use lab_runs::run::LabFault;
+use lab_runs::turn::Turn;
+use live_runs::LiveListener;
+use radio_book::book::Book;
+use screen_text::{Escaped, Reason};
+use std::alloc::{Allocator, Global};
+use std::io::{self, Write};
+use std::rt::Files;
+use trace_text::trace::Mark;
+
+/// How far a journal is.
+#[derive(Clone, Copy, Debug, PartialEq, Eq)]
+enum Phase {
+    /// Lines are noted.
+    Notes,
+    /// The lines have ended.
+    Ended,
+}
+
+/// A listener that notes the trace of each line in a journal. What the inner listener prints has to be held back until it is
+/// flushed: that comes once the line is on the disk, together with the lines that were there already.
+#[derive(Drop)]
+pub struct Journaled<'a, L, R: Files + AllocGlobal> {
+    inner: L,
+    journal: Journal<'a, R>,
+    alloc: Global,
+    path: &'a str,
+    site_sum: u32,
+    when_lost: WhenLost,
+    body: Vec<u8>,
+    phase: Phase,
+    lost: Option<Lost>,
+}
+
+impl<'a, L, R: Files + AllocGlobal> Journaled<'a, L, R> {
+    /// One that notes what it hears in a journal, of a folder with this path, and of a site with this checksum.
+    pub fn new(
+        alloc: Global,
+        inner: L,
+        journal: Journal<'a, R>,
+        path: &'a str,
+        site_sum: u32,
+        when_lost: WhenLost,
+    ) -> Journaled<'a, L, R> {
+        Journaled {
+            inner,
+            journal,
+            alloc,
+            path,
+            site_sum,
+            when_lost,
+            body: Vec::new(alloc),
+            phase: Phase::Notes,
+            lost: None,
+        }
+    }
+
+    /// The inner listener, and how the journal was lost, if it was.
+    pub fn into_parts(self) -> (L, Option<Lost>) {
+        let Journaled {
+            inner,
+            journal: _,
+            alloc: _,
+            path: _,
+            site_sum: _,
+            when_lost: _,
+            body: _,
+            phase: _,
+            lost,
+        } = self;
+        (inner, lost)
+    }
+
+    /// Notes what came of a line.
+    fn note(&mut self) -> Result<(), LabFault> {
+        match self.phase {
+            Phase::Ended => Ok(()),
+            Phase::Notes => {
+                if self.lost.is_none() {
+                    self.journal.note(&self.body)?;
+                }
+                self.body.clear();
+                Ok(())
+            }
+        }
+    }
+
+    /// The journal is lost: it ends here, or the controller goes on without it, as `errors` is told.
+    fn lose<E: Write>(&mut self, lost: Lost, errors: &mut E) -> Result<(), LabFault> {
+        self.lost = Some(lost);
+        match self.when_lost {
+            WhenLost::End => Err(LabFault::Write),
+            WhenLost::GoOn => {
+                let (path, error) = (Escaped(self.path), lost.error());
+                let reason = Reason(&error);
+                Ok(writeln!(
+                    errors,
+                    "{path}: {reason}; the journal ends, and the controller goes on"
+                )?)
+            }
+        }
+    }
+
+    /// Has all that was noted on the disk.
+    fn put_down<E: Write>(&mut self, errors: &mut E) -> Result<(), LabFault> {
+        if self.lost.is_some() {
+            return Ok(());
+        }
+        match self.journal.put_down() {
+            Ok(()) => Ok(()),
+            Err(error) => self.lose(Lost::Records(error), errors),
+        }
+    }
+
+    /// Says why no file was begun; the last one goes on.
+    fn say_not_begun<E: Write>(&self, error: io::Error, errors: &mut E) -> io::Result<()> {
+        writeln!(
+            errors,
+            "{}: {}; no file is begun, and the last one goes on",
+            Escaped(self.path),
+            Reason(&error)
+        )
+    }
+
+    /// Begins a file with a head.
+    fn begin_span<E: Write>(&mut self, head: &str, errors: &mut E) -> Result<(), LabFault> {
+        match self.journal.begin_span(self.alloc, head.as_bytes()) {
+            Ok(None) => Ok(()),
+            Ok(Some(error)) => Ok(writeln!(
+                errors,
+                "{}: {}; an old file stays",
+                Escaped(self.path),
+                Reason(&error)
+            )?),
+            Err(BeginFault::NotBegun(error)) => Ok(self.say_not_begun(error, errors)?),
+            Err(BeginFault::Unknown(error)) => self.lose(Lost::File(error), errors),
+        }
+    }
+}
+
+impl<L: Listener<Global>, R: Files + AllocGlobal> Listener<Global> for Journaled<'_, L, R> {
+    fn hear_unmet(&mut self, unmet: Unmet) -> Result<(), LabFault> {
+        self.inner.hear_unmet(unmet)
+    }
+
+    fn hear_turn(
+        &mut self,
+        mark: Mark,
+        turn: &Turn<Global>,
+        book: &Book<Global>,
+    ) -> Result<(), LabFault> {
+        // what is kept in memory lacks nothing but that
+        Printing::new(&mut self.body)
+            .hear_turn(mark, turn, book)
+            .map_err(|_| LabFault::NoMemory)?;
+        self.inner.hear_turn(mark, turn, book)
+    }
+
+    /// The line isn't noted, so that nothing of it may leave.
+    fn hear_owed(&mut self, _mark: Mark, _messages: &[Outbound<Global>]) -> Result<(), LabFault> {
+        Ok(())
+    }
+
+    fn hear_limit(&mut self) -> Result<(), LabFault> {
+        Listener::<Global>::hear_limit(&mut Printing::new(&mut self.body)).map_err(
+            |_| LabFault::NoMemory,
+        )?;
+        self.inner.hear_limit()
+    }
+
+    fn hear_end(&mut self, mark: Mark, book: &Book<Global>) -> Result<(), LabFault> {
+        self.phase = Phase::Ended;
+        self.inner.hear_end(mark, book)
+    }
+
+    fn hear_no_site(&mut self, fault: SiteFault) -> io::Result<()> {
+        self.inner.hear_no_site(fault)
+    }
+
+    fn hear_unreadable(&mut self, line: usize) -> io::Result<()> {
+        Listener::<Global>::hear_unreadable(&mut Printing::new(&mut self.body), line)?;
+        self.inner.hear_unreadable(line)
+    }
+}
+
+impl<L: LiveListener<Global>, R: Files + AllocGlobal> LiveListener<Global> for Journaled<'_, L, R> {
+    fn hear_line_end<E: Write>(&mut self, errors: &mut E) -> Result<(), LabFault> {
+        self.note()?;
+        match self.phase {
+            Phase::Ended => self.hear_wait(errors),
+            Phase::Notes if self.journal.is_full() => self.hear_wait(errors),
+            Phase::Notes => Ok(()),
+        }
+    }
+
+    fn take_unmet(&mut self) -> Option<Unmet> {
+        self.inner.take_unmet()
+    }
+
+    fn hear_wait<E: Write>(&mut self, errors: &mut E) -> Result<(), LabFault> {
+        self.put_down(errors)?;
+        self.inner.hear_line_end(errors)
+    }
+
+    fn hear_anew<E: Write>(&mut self, book: &Book<Global>, errors: &mut E) -> Result<(), LabFault> {
+        self.hear_wait(errors)?;
+        if self.lost.is_some() {
+            return Ok(());
+        }
+        match head_body(self.alloc, self.site_sum, book) {
+            Ok(head) => self.begin_span(&head, errors),
+            Err(HeadFault::NoMemory) => Err(LabFault::NoMemory),
+            Err(HeadFault::Differs) => Ok(writeln!(
+                errors,
+                "{}: {}; no file is begun, and the last one goes on",
+                Escaped(self.path),
+                HeadFault::Differs
+            )?),
+        }
+    }
+
+    fn hear_summary(&mut self) -> Result<bool, LabFault> {
+        self.inner.hear_summary()
+    }
+}

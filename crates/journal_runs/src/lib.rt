@@ -1,0 +1,9 @@
+//! A controller that notes what came of each line in a journal, before anything of it leaves (`journaled`); and the output that is
+//! held back until then (`held`).
+#![tactic(auto)]
+
+mod held;
+mod journaled;
+
+pub use held::Held;
+pub use journaled::Journaled;

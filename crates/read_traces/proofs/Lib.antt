@@ -1,2 +1,0 @@
--- facts of the lines of a trace
-pub mod EntryLemmas

@@ -1,6 +1,0 @@
-use Rattle.std.proofs.Common.{arith, codes}
-use Rattle.read_traces.proofs.EntryLemmas.{cut_by_text}
-use Rattle.read_traces.proofs.entries.halves.Goals as goal
-
-pub returns : goal.returns
-returns c = cut_by_text (codes " -> ") c.args.text.now c.split_once.result (omega arith) c.split_once.ensures.cases
