@@ -24,6 +24,7 @@ mod ticking;
 
 use crate::places::Places;
 use crate::ticking::Ticking;
+use lab::Locking;
 use lab::program::perform;
 use lab::run::{LabFault, Status, exit_status};
 use lab::storm::{StormJob, Unwatched, storm_asked, storm_file};
@@ -167,7 +168,10 @@ fn perform_watched<
     is_shown: bool,
     watch: Option<Watch<T>>,
     errors: &mut E,
-) -> Result<Status, LabFault> {
+) -> Result<Status, LabFault>
+where
+    R::File: Locking,
+{
     let Some(
         Watch {
             terminal,
@@ -224,7 +228,10 @@ fn start<
     I: Read + Drop,
     T: Write + Drop,
     E: Write,
->(rt: &R, input: I, terminals: Terminals, terminal: T, errors: &mut E) -> Result<Status, LabFault> {
+>(rt: &R, input: I, terminals: Terminals, terminal: T, errors: &mut E) -> Result<Status, LabFault>
+where
+    R::File: Locking,
+{
     let Some(words) = words_of(rt, errors)? else {
         return Ok(Status::Refused);
     };

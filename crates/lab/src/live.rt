@@ -2,17 +2,44 @@
 //!
 //! No clause says what is printed: which lines are handled is said in `live_runs`.
 use crate::files::{ended_viewed, text_of};
+use crate::journals::{Opened, ended_journal, open_journal};
 use crate::site_files::say_site;
 use crate::view_paths::{is_site, refuse_twice};
 use cell_table::Site;
+use journal_files::Locking;
+use journal_records::checksum;
+use journal_runs::{Held, Journaled};
 use lab_runs::listener::Printing;
 use lab_runs::run::{LabFault, Status, refuse_site};
-use live_runs::{LiveFault, live_run};
+use lab_words::JournalWords;
+use live_runs::{LineReader, LiveFault, Rules, live_run};
+use radio_book::book::Book;
 use run_views::{LiveViewer, Views, open_sheets};
 use screen_text::Reason;
-use std::alloc::Global;
+use std::alloc::{AllocError, Global};
 use std::io::{BufRead, BufReader, Read, Write};
 use std::rt::Files;
+use std::sync::Arc;
+
+/// What is asked of a live run.
+#[derive(Clone, Copy)]
+pub struct AskedLive<'a> {
+    /// The path of the site's file.
+    pub path: &'a str,
+    /// What is to be seen beside the trace.
+    pub views: &'a Views<'a>,
+    /// After how many events the history begins anew.
+    pub entries: usize,
+    /// The journal that the controller has.
+    pub journal: Option<JournalWords<'a>>,
+}
+
+/// The site of a file, and the checksum of its text.
+#[derive(Drop)]
+struct ReadSite {
+    site: Arc<Site>,
+    sum: u32,
+}
 
 /// The site of a file; nothing where file or site is refused, and then `out` and `errors` say so.
 fn site_of<R: Files + AllocGlobal, W: Write, E: Write>(
@@ -20,13 +47,16 @@ fn site_of<R: Files + AllocGlobal, W: Write, E: Write>(
     path: &str,
     out: &mut W,
     errors: &mut E,
-) -> Result<Option<Site>, LabFault> {
+) -> Result<Option<ReadSite>, LabFault> {
     let alloc = rt.alloc();
     let Some(text) = text_of(rt, path, out, errors)? else {
         return Ok(None);
     };
     match Site::read(alloc, alloc, &text) {
-        Ok(site) => Ok(Some(site)),
+        Ok(site) => Ok(Some(ReadSite {
+            site: Arc::new(alloc, site).map_err(AllocError::from)?,
+            sum: checksum(text.as_bytes()),
+        })),
         Err(fault) => {
             refuse_site::<Global, _>(fault, &mut Printing::new(out))?;
             say_site(alloc, path, &text, errors)?;
@@ -48,23 +78,79 @@ fn ended_live<E: Write>(ended: Result<(), LiveFault>, errors: &mut E) -> Result<
     }
 }
 
-/// Runs a live controller over a site, with the views that are asked for; nothing where the file of one can't be opened, and
+/// Runs a live controller over a book, with the views that are asked for; nothing where the file of one can't be opened, and
 /// then its path was printed, and on `errors` why.
-fn live_viewed<R: Files + AllocGlobal, I: BufRead, W: Write, E: Write>(
+fn live_viewed<R: Files + AllocGlobal, I: BufRead + LineReader, W: Write, E: Write>(
     rt: &R,
-    site: Site,
-    views: &Views<'_>,
+    book: Book,
+    asked: AskedLive<'_>,
     reader: &mut I,
     out: &mut W,
     errors: &mut E,
 ) -> Result<Status, LabFault> {
     let alloc = rt.alloc();
-    let Some(sheets) = open_sheets(rt, views, out, errors)? else {
+    let Some(sheets) = open_sheets(rt, asked.views, out, errors)? else {
         return Ok(Status::Refused);
     };
-    let mut viewer = LiveViewer::new(alloc, views, sheets, out, errors)?;
-    let ended = live_run(alloc, site, reader, &mut viewer, errors);
+    let mut viewer = LiveViewer::new(alloc, asked.views, sheets, out, errors)?;
+    let rules = Rules {
+        first: 1,
+        entries: asked.entries,
+        sims: true,
+    };
+    let ended = live_run(alloc, book, rules, reader, &mut viewer, errors);
     let written = viewer.finish(errors);
+    ended_viewed(ended_live(ended, errors), written)
+}
+
+/// The same with a journal that was opened.
+fn live_journaled<R: Files + AllocGlobal, I: BufRead + LineReader, W: Write, E: Write>(
+    rt: &R,
+    opened: Opened<'_, R>,
+    asked: AskedLive<'_>,
+    journal_words: JournalWords<'_>,
+    site_sum: u32,
+    reader: &mut I,
+    out: &mut W,
+    errors: &mut E,
+) -> Result<Status, LabFault>
+where
+    R::File: Locking,
+{
+    let alloc = rt.alloc();
+    let Some(sheets) = open_sheets(rt, asked.views, out, errors)? else {
+        return Ok(Status::Refused);
+    };
+    let Opened {
+        journal,
+        book,
+        lock: _lock,
+    } = opened;
+    let rules = Rules {
+        first: (journal.last() as usize).saturating_add(1),
+        entries: asked.entries,
+        sims: false,
+    };
+    let mut held = Held::new(alloc, out);
+    let viewer = LiveViewer::new(alloc, asked.views, sheets, &mut held, errors)?;
+    let mut journaled = Journaled::new(
+        alloc,
+        viewer,
+        journal,
+        journal_words.folder,
+        site_sum,
+        journal_words.when_lost,
+    );
+    let ended = live_run(alloc, book, rules, reader, &mut journaled, errors);
+    let (viewer, lost) = journaled.into_parts();
+    let written = viewer.finish(errors);
+    let ended = ended_journal(
+        ended,
+        lost,
+        held.lacks_memory(),
+        journal_words.folder,
+        errors,
+    )?;
     ended_viewed(ended_live(ended, errors), written)
 }
 
@@ -73,27 +159,41 @@ fn live_viewed<R: Files + AllocGlobal, I: BufRead, W: Write, E: Write>(
 /// with the lines, and the capture's file is emptied when the site was read, and then grows with each line. The line `summary`
 /// is answered by what came so far, counted.
 ///
+/// The history begins anew behind a line with which it has as many entries as is asked for. With a journal what came of each
+/// line is on the disk before anything of it is written to `out`; where the folder has a journal already, the controller goes
+/// on with its book and its count of lines, as `errors` says.
+///
 /// The file and its site are refused as [`run_files`](crate::files::run_files) refuses them, before anything of `input` is read.
-/// The answer is `Done` at the end of `input`, and `Refused` where the file or the site is, where the capture's file can't be
-/// opened, or where `input` can't be read, as one line on `errors` then says. A write that fails ends the run (`Write`), but one
-/// of the capture, which ends alone, as `errors` then says: the answer is `Write` once `input` has ended. The run ends, too,
-/// with refused memory (`NoMemory`), before which the messages that are owed are printed.
+/// The answer is `Done` at the end of `input`, and `Refused` where the file, the site or the journal is, where the capture's
+/// file can't be opened, or where `input` can't be read, as one line on `errors` then says. A write that fails ends the run
+/// (`Write`), one of the journal as it is asked for, but one of the capture ends that alone, as `errors` then says: the answer
+/// is `Write` once `input` has ended. The run ends, too, with refused memory (`NoMemory`), before which the messages that are
+/// owed are printed; with a journal nothing is then printed of the line.
 pub fn live_file<R: Files + AllocGlobal, I: Read + Drop, W: Write, E: Write>(
     rt: &R,
-    path: &str,
-    views: &Views<'_>,
+    asked: AskedLive<'_>,
     input: I,
     out: &mut W,
     errors: &mut E,
-) -> Result<Status, LabFault> {
-    if let Some(pcap) = is_site(rt, path, views) {
+) -> Result<Status, LabFault>
+where
+    R::File: Locking,
+{
+    if let Some(pcap) = is_site(rt, asked.path, asked.views) {
         return refuse_twice(pcap, out, errors);
     }
-    let Some(site) = site_of(rt, path, out, errors)? else {
+    let Some(ReadSite { site, sum }) = site_of(rt, asked.path, out, errors)? else {
         return Ok(Status::Refused);
     };
     let alloc = rt.alloc();
     // a buffer lacks nothing but memory
     let mut reader = BufReader::new(alloc, input).map_err(|_| LabFault::NoMemory)?;
-    live_viewed(rt, site, views, &mut reader, out, errors)
+    let Some(journal) = asked.journal else {
+        let book = Book::new(alloc, site)?;
+        return live_viewed(rt, book, asked, &mut reader, out, errors);
+    };
+    let Some(opened) = open_journal(rt, journal, site, sum, out, errors)? else {
+        return Ok(Status::Refused);
+    };
+    live_journaled(rt, opened, asked, journal, sum, &mut reader, out, errors)
 }

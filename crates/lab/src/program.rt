@@ -4,13 +4,14 @@ use crate::decoded::{Decoded, LinkName, decode_text, ended};
 use crate::encoded::encode_run;
 use crate::explained::explain;
 use crate::files::run_files;
-use crate::live::live_file;
+use crate::live::{AskedLive, live_file};
 use crate::script_files::{record_file, test_files, try_undos_files};
 use crate::summaries::summary_file;
 use crate::trace_files::{audit_files, rewind_all_files, rewind_files};
 use crate::undecoded::say_undecoded;
 use decoded_lines::answer_file;
 use explanations::Question;
+use journal_files::Locking;
 use lab_runs::run::{LabFault, Status};
 use lab_words::{Job, WordsFault, read_words};
 use std::alloc::Global;
@@ -74,7 +75,10 @@ pub fn perform<R: Files + AllocGlobal, I: Read + Drop, W: Write, E: Write>(
     input: I,
     out: &mut W,
     errors: &mut E,
-) -> Result<Status, LabFault> {
+) -> Result<Status, LabFault>
+where
+    R::File: Locking,
+{
     match read_words(rt.alloc(), words) {
         Ok(
             Job::Run {
@@ -84,7 +88,22 @@ pub fn perform<R: Files + AllocGlobal, I: Read + Drop, W: Write, E: Write>(
                 ending,
             },
         ) => run_files(rt, sites, script, &views, ending, out, errors),
-        Ok(Job::Live { site, views }) => live_file(rt, site, &views, input, out, errors),
+        Ok(
+            Job::Live {
+                site,
+                views,
+                entries,
+                journal,
+            },
+        ) => {
+            let asked = AskedLive {
+                path: site,
+                views: &views,
+                entries,
+                journal,
+            };
+            live_file(rt, asked, input, out, errors)
+        }
         Ok(Job::Test { sites, scripts }) => test_files(rt, sites, &scripts, out, errors),
         Ok(Job::TryUndos { sites, scripts }) => try_undos_files(rt, sites, &scripts, out, errors),
         Ok(

@@ -1,7 +1,7 @@
 //! Tests and records of scripts in files.
 use crate::files::text_of;
 use crate::run_reason::{say_cut_script, say_line, say_refusal};
-use crate::script_notes::{say_bare_returns, say_idle_settings, say_slipped};
+use crate::script_notes::{say_idle_settings, say_slipped};
 use crate::script_sites::{ScriptSites, fault_of, sites_of_script};
 use crate::site_files::{SitePaths, SiteTexts, say_reasons, site_texts};
 use expectations::Recording;
@@ -106,8 +106,8 @@ fn test_file<R: Files + AllocGlobal, W: Write, E: Write>(
     match sites_of_script(rt, given.paths, test.name, &script, errors)? {
         ScriptSites::Given => test_over(rt.alloc(), &given.texts, &script, test, out, errors),
         ScriptSites::Named(texts) => test_over(rt.alloc(), &texts, &script, test, out, errors),
-        ScriptSites::Unreadable => {
-            print_miss(out, test.number, test.name, Miss::NoSite)?;
+        ScriptSites::Unreadable(miss) => {
+            print_miss(out, test.number, test.name, miss)?;
             Ok(Status::Refused)
         }
     }
@@ -200,8 +200,8 @@ fn try_file<R: Files + AllocGlobal, W: Write, E: Write>(
     match sites_of_script(rt, given.paths, name, &script, errors)? {
         ScriptSites::Given => try_over(alloc, &given.texts, &script, name, tally, out, errors),
         ScriptSites::Named(texts) => try_over(alloc, &texts, &script, name, tally, out, errors),
-        ScriptSites::Unreadable => {
-            print_miss(out, tally.next(), name, Miss::NoSite)?;
+        ScriptSites::Unreadable(miss) => {
+            print_miss(out, tally.next(), name, miss)?;
             Ok(Status::Refused)
         }
     }
@@ -238,8 +238,9 @@ pub fn try_undos_files<R: Files + AllocGlobal, W: Write, E: Write>(
     Ok(ended)
 }
 
-/// Records the script of a file, in these forms, over the site of another, or over two where a peer's is named, as [`record_run`] does of
-/// texts. Files and sites are refused as by [`run_files`](crate::files::run_files).
+/// Records the script of a file, in these forms, over the site of another, or over two where a peer's is named, as
+/// [`record_run`] does of texts. Files and sites are refused as by [`run_files`](crate::files::run_files), and the same is said of
+/// the script.
 pub fn record_file<R: Files + AllocGlobal, W: Write, E: Write>(
     rt: &R,
     paths: SitePaths<'_>,
@@ -255,11 +256,13 @@ pub fn record_file<R: Files + AllocGlobal, W: Write, E: Write>(
     let Some(text) = text_of(rt, script, out, errors)? else {
         return Ok(Status::Refused);
     };
-    say_bare_returns(script, &text, errors)?;
+    say_cut_script(script, &text, errors)?;
     let peer = sites.peer();
     let status = record_run(alloc, alloc, sites.first(), peer, &text, recording, out)?;
     if status == Status::Refused {
         say_refusal(alloc, paths, &sites, script, &text, errors)?;
+    } else {
+        say_idle_settings(alloc, script, &sites, &text, errors)?;
     }
     Ok(status)
 }

@@ -4,28 +4,35 @@
 //! No clause says what the lines hold: that is shown by tests.
 use crate::site_files::SiteTexts;
 use cell_table::SiteFault;
-use expectations::is_slipped;
-use idle_settings::{Idle, idle_settings};
-use lab_runs::run::{LabFault, Sites, read_sites};
+use expectations::{is_slipped, names_no_site};
+use idle_settings::{Cause, Idle, idle_settings};
+use lab_runs::run::{LabFault, read_sites};
 use lab_script::script::without_return;
 use screen_text::Escaped;
 use std::alloc::Global;
 use std::io::{self, Write};
 
-/// Says which comments of a script look as if they expected something, but for a blank.
+/// What is said of a comment that looks like one which was to say something.
+fn slip_of(line: &str) -> Option<&'static str> {
+    if is_slipped(line) {
+        Some("an expectation but for a blank? \"#> \", \"#! \" and \"#= \" begin one")
+    } else if names_no_site(line) {
+        Some("names nothing: \"#% site PATH\" and \"#% peer PATH\" name sites")
+    } else {
+        None
+    }
+}
+
+/// Says which comments of a script look as if they expected something, or named a site, but don't.
 pub(crate) fn say_slipped<E: Write>(
     path: &str,
     script: &str,
     errors: &mut E,
 ) -> Result<(), LabFault> {
     for (place, line) in script.split('\n').enumerate() {
-        if is_slipped(without_return(line)) {
-            writeln!(
-                errors,
-                "{}:{}: an expectation but for a blank? \"#> \", \"#! \" and \"#= \" begin one",
-                Escaped(path),
-                place.saturating_add(1)
-            )?;
+        if let Some(slip) = slip_of(without_return(line)) {
+            let number = place.saturating_add(1);
+            writeln!(errors, "{}:{number}: {slip}", Escaped(path))?;
         }
     }
     Ok(())
@@ -50,34 +57,32 @@ pub(crate) fn say_bare_returns<E: Write>(
     Ok(())
 }
 
-/// Says why a setting of a script comes to nothing.
+/// Says why a line of a script comes to nothing.
 fn say_idle<E: Write>(path: &str, idle: Idle, errors: &mut E) -> io::Result<()> {
-    let Idle {
-        line,
-        chan,
-        is_there,
-    } = idle;
+    let Idle { line, cause } = idle;
     let path = Escaped(path);
-    if is_there {
-        writeln!(
-            errors,
-            "{path}:{line}: never used: nothing comes of it on {chan}"
-        )
-    } else {
-        writeln!(errors, "{path}:{line}: the site has no channel {chan}")
+    match cause {
+        Cause::Unused(chan) => {
+            writeln!(
+                errors,
+                "{path}:{line}: never used: nothing comes of it on {chan}"
+            )
+        }
+        Cause::NoChannel(chan) => writeln!(errors, "{path}:{line}: the site has no channel {chan}"),
+        Cause::Unmet(unmet) => writeln!(errors, "{path}:{line}: nothing comes of it: {unmet}"),
     }
 }
 
-/// The sites of texts; nothing where one describes none.
-fn sites_of(alloc: Global, texts: &SiteTexts) -> Result<Option<Sites>, LabFault> {
+/// The lines of a script that come to nothing; none where a text describes no site.
+fn idle_in(alloc: Global, texts: &SiteTexts, script: &str) -> Result<Vec<Idle>, LabFault> {
     match read_sites(alloc, alloc, texts.first(), texts.peer()) {
-        Ok(sites) => Ok(Some(sites)),
+        Ok(sites) => idle_settings(alloc, sites, script),
         Err(SiteFault::NoMemory) => Err(LabFault::NoMemory),
-        Err(_) => Ok(None),
+        Err(_) => Ok(Vec::new(alloc)),
     }
 }
 
-/// Says which settings of a script come to nothing, and answers them.
+/// Says which lines of a script come to nothing, and answers them.
 pub(crate) fn say_idle_settings<E: Write>(
     alloc: Global,
     path: &str,
@@ -85,10 +90,7 @@ pub(crate) fn say_idle_settings<E: Write>(
     script: &str,
     errors: &mut E,
 ) -> Result<Vec<Idle>, LabFault> {
-    let (Some(sites), Some(for_run)) = (sites_of(alloc, texts)?, sites_of(alloc, texts)?) else {
-        return Ok(Vec::new(alloc));
-    };
-    let idle = idle_settings(alloc, &sites, for_run, script)?;
+    let idle = idle_in(alloc, texts, script)?;
     for setting in &idle {
         say_idle(path, *setting, errors)?;
     }

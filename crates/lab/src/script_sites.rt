@@ -4,15 +4,28 @@ use cell_table::SiteFault;
 use expectations::{peer_in, site_in};
 use lab_runs::run::{LabFault, read_sites};
 use lab_script::script::without_return;
+use screen_text::Escaped;
 use std::alloc::{AllocError, Global};
 use std::io::{self, Write};
 use std::rt::Files;
+use tested_scripts::Miss;
+
+/// What a script names first of a kind: the number of its line, counted from 1, and the path that stands there.
+type Named<'a> = Option<(usize, &'a str)>;
 
 /// The paths that a script names, as they stand in it.
 #[derive(Clone, Copy)]
 struct NamedPaths<'a> {
-    first: Option<&'a str>,
-    peer: Option<&'a str>,
+    first: Named<'a>,
+    peer: Named<'a>,
+}
+
+/// A line of a script that names a site, or a peer's, that another one has named.
+#[derive(Clone, Copy)]
+struct Twice {
+    line: usize,
+    /// The line that did before.
+    before: usize,
 }
 
 /// The sites over which a script is run.
@@ -22,22 +35,32 @@ pub(crate) enum ScriptSites {
     Given,
     /// Those that it names.
     Named(SiteTexts),
-    /// One that it names can't be read.
-    Unreadable,
+    /// It can't be run over what it names: why.
+    Unreadable(Miss<'static>),
 }
 
-/// The paths that a script names first.
-fn named_in(script: &str) -> NamedPaths<'_> {
+/// What is named once a line was read that names this path, or none.
+fn named_by<'a>(named: Named<'a>, line: usize, path: Option<&'a str>) -> Result<Named<'a>, Twice> {
+    match (named, path) {
+        (Some((before, _)), Some(_)) => Err(Twice { line, before }),
+        (None, Some(path)) => Ok(Some((line, path))),
+        (named, None) => Ok(named),
+    }
+}
+
+/// The paths that a script names, each once.
+fn named_in(script: &str) -> Result<NamedPaths<'_>, Twice> {
     let mut named = NamedPaths {
         first: None,
         peer: None,
     };
-    for line in script.split('\n') {
+    for (place, line) in script.split('\n').enumerate() {
+        let number = place.saturating_add(1);
         let line = without_return(line);
-        named.first = named.first.or(site_in(line));
-        named.peer = named.peer.or(peer_in(line));
+        named.first = named_by(named.first, number, site_in(line))?;
+        named.peer = named_by(named.peer, number, peer_in(line))?;
     }
-    named
+    Ok(named)
 }
 
 /// A path that stands in a script, seen from the script's folder.
@@ -52,10 +75,10 @@ fn beside(alloc: Global, script: &str, path: &str) -> Result<String, AllocError>
 fn named_beside(
     alloc: Global,
     script: &str,
-    path: Option<&str>,
+    named: Named<'_>,
 ) -> Result<Option<String>, AllocError> {
-    match path {
-        Some(path) => Ok(Some(beside(alloc, script, path)?)),
+    match named {
+        Some((_, path)) => Ok(Some(beside(alloc, script, path)?)),
         None => Ok(None),
     }
 }
@@ -75,17 +98,28 @@ fn texts_at<R: Files + AllocGlobal, E: Write>(
     errors: &mut E,
 ) -> Result<ScriptSites, LabFault> {
     let Some(texts) = site_texts(rt, paths, &mut io::sink(), errors)? else {
-        return Ok(ScriptSites::Unreadable);
+        return Ok(ScriptSites::Unreadable(Miss::NoSite));
     };
     if fault_of(rt.alloc(), &texts).is_some() {
         say_reasons(rt.alloc(), paths, &texts, errors)?;
-        return Ok(ScriptSites::Unreadable);
+        return Ok(ScriptSites::Unreadable(Miss::NoSite));
     }
     Ok(ScriptSites::Named(texts))
 }
 
+/// Says that a script names a second site, or a second peer's; it can't be run over that.
+fn refuse_twice<E: Write>(path: &str, twice: Twice, errors: &mut E) -> io::Result<ScriptSites> {
+    let Twice { line, before } = twice;
+    let path = Escaped(path);
+    writeln!(
+        errors,
+        "{path}:{line}: line {before} has named one: a script names one site, and one peer"
+    )?;
+    Ok(ScriptSites::Unreadable(Miss::Unreadable(line)))
+}
+
 /// The sites that the script of a file names, from its folder on. One that names its own site has a peer only where it names
-/// that, too; one that names a peer alone is run over the given site and that.
+/// that, too; one that names a peer alone is run over the given site and that. It may name each once.
 pub(crate) fn sites_of_script<R: Files + AllocGlobal, E: Write>(
     rt: &R,
     given: SitePaths<'_>,
@@ -93,7 +127,10 @@ pub(crate) fn sites_of_script<R: Files + AllocGlobal, E: Write>(
     script: &str,
     errors: &mut E,
 ) -> Result<ScriptSites, LabFault> {
-    let named = named_in(script);
+    let named = match named_in(script) {
+        Ok(named) => named,
+        Err(twice) => return Ok(refuse_twice(path, twice, errors)?),
+    };
     let first = named_beside(rt.alloc(), path, named.first)?;
     let peer = named_beside(rt.alloc(), path, named.peer)?;
     if first.is_none() && peer.is_none() {

@@ -1,5 +1,5 @@
 //! What a trace tells, counted.
-use crate::files::text_of;
+use crate::journal_text::trace_of;
 use lab_runs::run::{LabFault, Status};
 use run_summaries::{RunSummary, SummaryWords, TraceFault, json_text, summary_of_trace};
 use run_views::SummaryForm;
@@ -53,7 +53,7 @@ pub fn summary_file<R: Files + AllocGlobal, W: Write, E: Write>(
     errors: &mut E,
 ) -> Result<Status, LabFault> {
     let alloc = rt.alloc();
-    let Some(trace) = text_of(rt, path, out, errors)? else {
+    let Some(trace) = trace_of(rt, path, out, errors)? else {
         return Ok(Status::Refused);
     };
     match summary_of_trace(alloc, &trace) {

@@ -1,5 +1,6 @@
 //! Attempts that are taken out of the traces in files.
 use crate::files::text_of;
+use crate::journal_text::trace_of;
 use crate::site_files::{SitePaths, SiteTexts, say_reasons, say_site, site_texts};
 use attempt_lists::{is_of_two, list_run, side_text};
 use audits::traced::audit_run;
@@ -31,7 +32,7 @@ fn texts_of<R: Files + AllocGlobal, W: Write, E: Write>(
     let Some(site) = text_of(rt, site, out, errors)? else {
         return Ok(None);
     };
-    let Some(trace) = text_of(rt, trace, out, errors)? else {
+    let Some(trace) = trace_of(rt, trace, out, errors)? else {
         return Ok(None);
     };
     Ok(Some(Texts { site, trace }))
@@ -75,8 +76,13 @@ fn say_no_events<E: Write>(path: &str, text: &str, errors: &mut E) -> io::Result
     Ok(true)
 }
 
+/// How work ended whose answer is kept in a list, which lacks nothing but memory.
+fn kept_whole(ended: Result<Status, LabFault>) -> Result<Status, LabFault> {
+    ended.map_err(|_| LabFault::NoMemory)
+}
+
 /// Takes an undone attempt out of the trace of one file, over the site of another, and prints what stays, as
-/// [`rewind_run`] does of texts. Files and the site are refused as [`run_files`](crate::files::run_files) refuses them.
+/// [`rewind_run`] does of texts; nothing where memory is refused. Files and the site are refused as [`run_files`](crate::files::run_files) refuses them.
 pub fn rewind_files<R: Files + AllocGlobal, W: Write, E: Write>(
     rt: &R,
     site: &str,
@@ -89,7 +95,10 @@ pub fn rewind_files<R: Files + AllocGlobal, W: Write, E: Write>(
     let Some(texts) = texts_of(rt, site, trace, out, errors)? else {
         return Ok(Status::Refused);
     };
-    let status = rewind_run(alloc, alloc, &texts.site, &texts.trace, line, out)?;
+    let mut answer = Vec::new(alloc);
+    let ended = rewind_run(alloc, alloc, &texts.site, &texts.trace, line, &mut answer);
+    let status = kept_whole(ended)?;
+    out.write_all(&answer)?;
     if status == Status::Refused
         && !say_refused(alloc, site, trace, &texts, "rewind", errors)?
         && !say_no_events(trace, &texts.trace, errors)?
@@ -118,7 +127,7 @@ fn sides_texts<R: Files + AllocGlobal, W: Write, E: Write>(
     let Some(sites) = site_texts(rt, sites, out, errors)? else {
         return Ok(None);
     };
-    let Some(trace) = text_of(rt, trace, out, errors)? else {
+    let Some(trace) = trace_of(rt, trace, out, errors)? else {
         return Ok(None);
     };
     Ok(Some(SidesTexts { sites, trace }))
@@ -168,7 +177,7 @@ fn has_no_event_of_any(text: &str) -> bool {
 }
 
 /// Takes each undone attempt out of the trace of one file by itself, over the sites of others, and prints a line for each, as
-/// [`list_run`] does of texts. Files and sites are refused as [`run_files`](crate::files::run_files) refuses them.
+/// [`list_run`] does of texts; nothing where memory is refused. Files and sites are refused as [`run_files`](crate::files::run_files) refuses them.
 pub fn rewind_all_files<R: Files + AllocGlobal, W: Write, E: Write>(
     rt: &R,
     sites: SitePaths<'_>,
@@ -181,7 +190,10 @@ pub fn rewind_all_files<R: Files + AllocGlobal, W: Write, E: Write>(
         return Ok(Status::Refused);
     };
     let (site, peer) = (texts.sites.first(), texts.sites.peer());
-    let status = list_run(alloc, alloc, site, peer, &texts.trace, out)?;
+    let mut answer = Vec::new(alloc);
+    let ended = list_run(alloc, alloc, site, peer, &texts.trace, &mut answer);
+    let status = kept_whole(ended)?;
+    out.write_all(&answer)?;
     if status == Status::Refused {
         let _ = say_refused_sides(alloc, sites, trace, &texts, errors)?;
     } else if has_no_event_of_any(&texts.trace) {
@@ -191,7 +203,7 @@ pub fn rewind_all_files<R: Files + AllocGlobal, W: Write, E: Write>(
 }
 
 /// Takes all settled attempts out of the trace of one file, over the site of another, and prints what that comes to, as
-/// [`audit_run`] does of texts. Files and the site are refused as [`run_files`](crate::files::run_files) refuses them.
+/// [`audit_run`] does of texts; nothing where memory is refused. Files and the site are refused as [`run_files`](crate::files::run_files) refuses them.
 pub fn audit_files<R: Files + AllocGlobal, W: Write, E: Write>(
     rt: &R,
     site: &str,
@@ -203,7 +215,10 @@ pub fn audit_files<R: Files + AllocGlobal, W: Write, E: Write>(
     let Some(texts) = texts_of(rt, site, trace, out, errors)? else {
         return Ok(Status::Refused);
     };
-    let status = audit_run(alloc, alloc, &texts.site, &texts.trace, out)?;
+    let mut answer = Vec::new(alloc);
+    let ended = audit_run(alloc, alloc, &texts.site, &texts.trace, &mut answer);
+    let status = kept_whole(ended)?;
+    out.write_all(&answer)?;
     if status == Status::Refused {
         let _ = say_refused(alloc, site, trace, &texts, "audit", errors)?;
     } else {

@@ -18,13 +18,18 @@ to 7, with /0 or /1 behind it for half rate):
   undo CALL                   an operator takes the handover of a call back
   clear CALL                  an operator ends a call
   expire CALL TIMER           T3103, T7 or T8 of a call runs out
-  abis CELL TRX HEX           a message comes from a TRX of a cell
-  a CALL HEX                  a message comes about a call
+  abis CELL TRX HEX           a message comes from a TRX of a cell; or in words, as encode has them
+  a CALL HEX                  a message comes about a call; or in words
+  report CALL FIELD           the mobile of a call, or of all, reports; fields: full=30 n=1:40,64:20
+                              (n=- for no neighbours) sub= qfull= qsub= dtx ta= power= times=
+  answer CALL ANSWER          its station says ack, nack, detect, complete, failure or released
   sim                         from here on stations, mobiles and a switching centre are simulated
   refuse CELL TRX TN          behind sim: the station refuses the channel's next activation
-  hold CELL TRX TN            behind sim: the station keeps its next acknowledgement back
+  hold CELL TRX TN            behind sim: the station keeps its next acknowledgement back; behind it
+                              detection or complete: that a mobile was detected, or came
   let CELL TRX TN             behind sim: the station sends what it has kept back
   mobile CELL TRX TN HABIT    behind sim: arrive, return or vanish, when commanded to move
+  mobile CALL HABIT           behind sim: the same of the call's, on the channel that it has then
   double CELL TRX TN          behind sim: the next answer about the channel comes twice
   cut CELL TRX TN N           behind sim: the next answer is cut to N octets, 1 to 255
   hangup CALL                 behind sim: the switching centre hangs up
@@ -115,8 +120,12 @@ answered by what came so far, as bsc_lab help summary explains.
 ",
     "
 
-Statuses: 0 standard input has ended, 2 the file or the site is refused, or standard input can't be
-read or what is printed be written, 3 memory was refused.
+With --journal what came of each line is on the disk before anything of it leaves. Started anew over
+the same folder, the controller has the calls that it had; its windows are empty, and fill again.
+Lines are counted on. The line sim can't be read then.
+
+Statuses: 0 standard input has ended, 2 the file, the site or the journal is refused, or standard
+input can't be read or what is printed or noted be written, 3 memory was refused.
 
 As in: bsc_lab live site.toml"
 );
@@ -126,9 +135,9 @@ pub(crate) const TEST_HELP: &str = with_script_lines!(
     "\
 Comments behind a script line say what it gives. #> and a line of the trace: these are in order all
 lines, but that in .. may be left out; messages may stand in words, with some of their fields; #> ..
-stands for any lines, or none. #! and a text: no line begins so. #= and trx, channels, call, calls
-or references: what the books hold then. Behind the last line the trace's end may be expected, too.
-#% site PATH names the site of a script.
+stands for any lines, or none. #! and a text: no line begins so, or is so in words. #= and trx,
+channels, call, calls or references: what the books hold then. Behind the last line the trace's end
+may be expected, too. #% site PATH names the site of a script, #% peer PATH its peer's.
 
 With --undo-everywhere these comments are passed over. Behind each input, answers of simulators too,
 each attempt at handover that is open there is undone by an operator, in a run of its own, and taken
@@ -139,7 +148,8 @@ attempt, what was refused for its sake (held), and whether the release of its ch
 ",
     "
 
-Statuses: 0 all hold, 1 one differs, 2 one is refused, or the site, 3 memory was refused.
+Statuses: 0 all meet what they expect, 1 one doesn't, expects nothing, or has a line that comes to
+nothing (with --undo-everywhere: one differs), 2 one is refused, or the site, 3 memory was refused.
 
 As in: bsc_lab test site.toml one.txt another.txt"
 );
@@ -148,7 +158,8 @@ As in: bsc_lab test site.toml one.txt another.txt"
 pub(crate) const RECORD_HELP: &str = with_script_lines!(
     "\
 Comments that begin with #> are written anew, with --states those with #= too; all else stays as it
-is. Write to another file than SCRIPT: a shell empties that first.
+is. SITE is what the script is run over, also where it names another (#% site). Write to another
+file than SCRIPT: a shell empties that first.
 
 ",
     "
@@ -174,7 +185,9 @@ As in: bsc_lab storm site.toml --workers 4 --calls 64";
 /// What stands behind the help of `check`.
 pub(crate) const CHECK_HELP: &str = "\
 Prints a line for each own cell, one for each cell of others, and a warning for each key that is
-ignored, neighbour carrier that no other cell has, and cell without neighbours.
+ignored, neighbour carrier that no other cell has, cell without neighbours, and neighbour
+of which the cell is none. A neighbour stands with its position and code, as n of a
+MEASUREMENT REPORT has them.
 
 Statuses: 0 the site can be read, 2 the file or the site is refused, 3 memory was refused.
 

@@ -3,6 +3,7 @@
 
 mod explain_words;
 mod help;
+mod journal_words;
 mod refused_words;
 mod script_words;
 mod site_paths;
@@ -10,6 +11,7 @@ mod storm_words;
 mod view_words;
 mod words;
 
+pub use journal_words::JournalWords;
 pub use site_paths::SitePaths;
 pub use storm_words::StormSize;
 pub use view_words::Ending;

@@ -69,6 +69,10 @@ fn with_decode_usage(alloc: Global, line: &str) -> Result<String, AllocError> {
 
 /// Commands with numbers among their words, those numbers, and what they may be.
 const NUMBERS: &[(&str, &str, &str)] = &[
+    ("run", "'--call <N>'", "; N is a number from 0 to 65535"),
+    ("live", "'--history <N>'", "; N is a number from 1 on"),
+    ("live", "'--keep <N>'", "; N is a number from 1 on"),
+    ("live", "'--heard <M>'", "; M is a number from 0 on"),
     ("rewind", "'[LINE]'", "; LINE is a number from 1 on"),
     ("storm", "'--workers <N>'", "; N is a number from 1 to 16"),
     ("storm", "'--calls <M>'", "; M is a number from 1 to 1024"),

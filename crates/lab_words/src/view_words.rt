@@ -34,7 +34,7 @@ fn words_argument<'a>(alloc: Global) -> Arg<'a> {
     Arg::new(alloc, "WORDS")
         .long("words")
         .action(ArgAction::SetTrue)
-        .help("Says the call, message, causes and refusals of each line in words, behind #")
+        .help("Says call, message, causes and refusals of each line in words, behind #")
 }
 
 /// `--state`
@@ -42,7 +42,15 @@ fn state_argument<'a>(alloc: Global) -> Arg<'a> {
     Arg::new(alloc, "STATE")
         .long("state")
         .action(ArgAction::SetTrue)
-        .help("Prints after each input what the book holds, and at the end what is left")
+        .help("Prints after each input what the book holds, at the end what is left")
+}
+
+/// `--decisions`
+fn decisions_argument<'a>(alloc: Global) -> Arg<'a> {
+    Arg::new(alloc, "decisions")
+        .long("decisions")
+        .action(ArgAction::SetTrue)
+        .help("Says behind each report of a call what came of each neighbour, and why")
 }
 
 /// `--pcap FILE`
@@ -134,8 +142,8 @@ fn line_options<'a>(alloc: Global, command: Command<'a>) -> Result<Command<'a>, 
         .arg(call_argument(alloc)?)
 }
 
-/// Adds to a command the options `--words`, `--state`, `--pcap FILE`, `--chart FILE`, `--summary`, `--json`, `--lines` and
-/// `--call N`.
+/// Adds to a command the options `--words`, `--state`, `--decisions`, `--pcap FILE`, `--chart FILE`, `--summary`, `--json`,
+/// `--lines` and `--call N`.
 pub(crate) fn view_options<'a>(
     alloc: Global,
     command: Command<'a>,
@@ -143,13 +151,14 @@ pub(crate) fn view_options<'a>(
     let command = command
         .arg(words_argument(alloc))?
         .arg(state_argument(alloc))?
+        .arg(decisions_argument(alloc))?
         .arg(pcap_argument(alloc))?
         .arg(chart_argument(alloc))?;
     let command = summary_options(alloc, command)?;
     line_options(alloc, command)
 }
 
-/// Adds to a command the options of views that are shown line by line: `--words`, `--state` and `--pcap FILE`.
+/// Adds to a command the options of views that are shown line by line: `--words`, `--state`, `--decisions` and `--pcap FILE`.
 pub(crate) fn live_view_options<'a>(
     alloc: Global,
     command: Command<'a>,
@@ -157,6 +166,7 @@ pub(crate) fn live_view_options<'a>(
     command
         .arg(words_argument(alloc))?
         .arg(state_argument(alloc))?
+        .arg(decisions_argument(alloc))?
         .arg(pcap_argument(alloc))
 }
 
@@ -165,6 +175,7 @@ pub(crate) fn live_views_of<'a>(matches: &ArgMatches<'a>) -> Views<'a> {
     Views {
         words: matches.get_flag("WORDS"),
         state: matches.get_flag("STATE"),
+        decisions: matches.get_flag("decisions"),
         pcap: matches.get_str("PCAP"),
         chart: None,
         summary: None,
@@ -178,6 +189,7 @@ pub(crate) fn views_of<'a>(matches: &ArgMatches<'a>) -> Views<'a> {
     Views {
         words: matches.get_flag("WORDS"),
         state: matches.get_flag("STATE"),
+        decisions: matches.get_flag("decisions"),
         pcap: matches.get_str("PCAP"),
         chart: matches.get_str("CHART"),
         summary: summary_of(matches),

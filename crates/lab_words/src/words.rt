@@ -6,6 +6,7 @@ use crate::help::{
     AUDIT_HELP, CHECK_HELP, DECODE_HELP, ENCODE_HELP, LIVE_HELP, REWIND_HELP, RUN_HELP,
     SUMMARY_HELP, with_messages,
 };
+use crate::journal_words::{JournalWords, entries_of, journal_of, journal_options};
 use crate::refused_words::refused_line;
 use crate::script_words::{
     is_everywhere, record_command, recording_of, script_paths, site_paths, test_command,
@@ -35,11 +36,13 @@ pub enum Job<'a> {
         views: Views<'a>,
         ending: Ending,
     },
-    /// A controller is given the lines of standard input as they come: the site's path, and what is to be seen beside the
-    /// trace, line by line.
+    /// A controller is given the lines of standard input as they come: the site's path, what is to be seen beside the
+    /// trace, line by line, after how many events its history begins anew, and the journal that it has.
     Live {
         site: &'a str,
         views: Views<'a>,
+        entries: usize,
+        journal: Option<JournalWords<'a>>,
     },
     /// An undone attempt is taken out of a trace: the paths of the site and of the trace, and the line, counted from 1, in
     /// which the attempt opens.
@@ -175,13 +178,13 @@ fn run_command<'a>(alloc: Global) -> Result<Command<'a>, AllocError> {
     command.arg(audit_argument(alloc))
 }
 
-/// `live SITE`, and the views that are shown line by line
+/// `live SITE`, the views that are shown line by line, and the journal
 fn live_command<'a>(alloc: Global) -> Result<Command<'a>, AllocError> {
     let command = Command::new(alloc, "live")
         .about("Runs the script lines of standard input as they come, and prints the trace")
         .after_help(LIVE_HELP)
         .arg(argument(alloc, "SITE", "The site file"))?;
-    live_view_options(alloc, command)
+    journal_options(alloc, live_view_options(alloc, command)?)
 }
 
 /// `check SITE`
@@ -208,6 +211,7 @@ fn rewind_command<'a>(alloc: Global) -> Result<Command<'a>, AllocError> {
 fn sides_argument<'a>(alloc: Global) -> Result<Arg<'a>, AllocError> {
     // what is required is passed over where something that excludes it is given, as the line is
     peer_argument(alloc)
+        .help("The site file of a second controller, for lines of the trace with 2:")
         .requires_arg("all")?
         .conflicts_with("LINE")
 }
@@ -446,6 +450,8 @@ fn job_of<'a>(matches: &ArgMatches<'a>) -> Option<Job<'a>> {
         ("live", live) => Some(Job::Live {
             site: live.get_str("SITE")?,
             views: live_views_of(live),
+            entries: entries_of(live),
+            journal: journal_of(live),
         }),
         ("record", record) => Some(Job::Record {
             sites: site_paths(record)?,

@@ -1,6 +1,5 @@
 //! Inputs that come to nothing.
 use channel_fsm::ChanState;
-use ho_procedure::exchange::Inbound;
 use lab_runs::turn::{Answer, Turn};
 use line_words::Content;
 use radio_book::event::{Event, Reply};
@@ -13,14 +12,6 @@ pub(crate) fn is_ignored<A: Allocator>(turn: &Turn<A>) -> bool {
     match &turn.answer {
         Answer::Sent(sent) => turn.steps.is_empty() && sent.is_empty(),
         Answer::Undecoded(_) => false,
-    }
-}
-
-/// Whether an input is a message.
-fn is_message<A: Allocator>(input: &Inbound<A>) -> bool {
-    match input {
-        Inbound::Abis { .. } | Inbound::A { .. } => true,
-        Inbound::Expiry { .. } | Inbound::Operator(_) => false,
     }
 }
 
@@ -71,14 +62,13 @@ fn is_noted<A: Allocator>(steps: &[Step], content: &Content<A>) -> bool {
     ) && steps.iter().any(|step| serves(*step, content))
 }
 
-/// Whether an input is a message that no row goes on with at the stage that its call is in: the book was asked, nothing
-/// changed, and nothing is sent. A report that is noted isn't one.
+/// Whether no row goes on with an input at the stage that its call is in: the book was asked, nothing changed, and nothing is
+/// sent. A report that is noted isn't one.
 pub(crate) fn is_out_of_stage<A: Allocator>(turn: &Turn<A>, content: &Content<A>) -> bool {
     match &turn.answer {
         Answer::Sent(sent) => {
             sent.is_empty()
                 && !turn.steps.is_empty()
-                && is_message(&turn.input)
                 && turn.steps.iter().all(|step| changed_nothing(*step))
                 && !is_noted(&turn.steps, content)
         }

@@ -1,4 +1,5 @@
-//! Views of a run: its trace with words and with what the books hold, as a capture file, as a sequence chart, and counted.
+//! Views of a run: its trace with words, with what was decided by reports and with what the books hold, as a capture file, as a
+//! sequence chart, and counted.
 //!
 //! A [`Viewer`] listens to a run, prints its trace, turn by turn, and gathers what else is asked for. A [`LiveViewer`] listens
 //! to lines as they come, and writes what it gathers at once.

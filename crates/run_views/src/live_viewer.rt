@@ -5,6 +5,7 @@ use crate::viewer::Viewer;
 use capture::RunCapture;
 use cell_table::SiteFault;
 use ho_procedure::exchange::Outbound;
+use lab_runs::asked::Unmet;
 use lab_runs::listener::Listener;
 use lab_runs::run::LabFault;
 use lab_runs::turn::Turn;
@@ -25,6 +26,8 @@ pub struct LiveViewer<'a, 'p, W: Write, F: Write + Drop, A: Allocator + Copy = G
     pcap: Option<Sheet<'p, F>>,
     /// Whether it couldn't be.
     is_cut: bool,
+    /// Why nothing came of the line, where it asked in vain.
+    unmet: Option<Unmet>,
 }
 
 /// Writes what a capture has of its file, and then has it no more.
@@ -71,6 +74,7 @@ impl<'a, 'p, W: Write, F: Write + OpenFile + Drop, A: Allocator + Copy> LiveView
             viewer,
             pcap,
             is_cut: false,
+            unmet: None,
         })
     }
 
@@ -81,6 +85,7 @@ impl<'a, 'p, W: Write, F: Write + OpenFile + Drop, A: Allocator + Copy> LiveView
             viewer,
             pcap,
             is_cut,
+            unmet: _,
         } = self;
         if is_cut {
             return Err(LabFault::Write);
@@ -116,6 +121,11 @@ impl<W: Write, F: Write + Drop, A: Allocator + Copy> LiveViewer<'_, '_, W, F, A>
 }
 
 impl<W: Write, F: Write + Drop, A: Allocator + Copy> Listener<A> for LiveViewer<'_, '_, W, F, A> {
+    fn hear_unmet(&mut self, unmet: Unmet) -> Result<(), LabFault> {
+        self.unmet = Some(unmet);
+        Ok(())
+    }
+
     /// Where memory is refused, the messages that weren't shown yet are printed without views.
     fn hear_turn(&mut self, mark: Mark, turn: &Turn<A>, book: &Book<A>) -> Result<(), LabFault> {
         match self.viewer.hear_turn(mark, turn, book) {
@@ -154,6 +164,10 @@ impl<W: Write, F: Write + Drop, A: Allocator + Copy> LiveListener<A>
     fn hear_line_end<E: Write>(&mut self, errors: &mut E) -> Result<(), LabFault> {
         self.viewer.flush()?;
         self.write_capture(errors)
+    }
+
+    fn take_unmet(&mut self) -> Option<Unmet> {
+        self.unmet.take()
     }
 
     fn hear_summary(&mut self) -> Result<bool, LabFault> {

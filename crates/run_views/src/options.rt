@@ -16,6 +16,8 @@ pub struct Views<'a> {
     pub words: bool,
     /// What the book holds after each input.
     pub state: bool,
+    /// What was decided by each report of a call without an attempt.
+    pub decisions: bool,
     /// The path of the capture file.
     pub pcap: Option<&'a str>,
     /// The path of the sequence chart.
@@ -34,6 +36,7 @@ impl<'a> Views<'a> {
         Views {
             words: false,
             state: false,
+            decisions: false,
             pcap: None,
             chart: None,
             summary: None,
@@ -46,6 +49,7 @@ impl<'a> Views<'a> {
     pub fn is_plain(&self) -> bool {
         !self.words
             && !self.state
+            && !self.decisions
             && self.pcap.is_none()
             && self.chart.is_none()
             && self.summary.is_none()

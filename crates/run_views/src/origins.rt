@@ -1,6 +1,6 @@
 //! Which line of a script gave an input.
 use lab_runs::turn::Source;
-use lab_script::script::{Given, ScriptFault, read_script};
+use lab_script::script::{ScriptFault, read_script};
 use std::alloc::{AllocError, Allocator, Global};
 use std::fmt;
 
@@ -25,21 +25,19 @@ impl fmt::Display for Origin {
     }
 }
 
-/// The lines of a script that give inputs, in their order, and how many inputs came of them.
+/// The lines of a script that give something, in their order, and how many of them were played.
 #[derive(Drop)]
 pub(crate) struct Origins<A: Allocator = Global> {
     numbers: Vec<usize, A>,
-    came: usize,
+    played: usize,
 }
 
-/// Whether a line gives an input, as it stands behind one that attaches the simulators.
-fn gives_input<A: Allocator + Copy>(alloc: A, line: &str) -> Result<bool, AllocError> {
+/// Whether a line gives something, as it stands behind one that attaches the simulators.
+fn gives_item<A: Allocator + Copy>(alloc: A, line: &str) -> Result<bool, AllocError> {
     let script = format!(in alloc; "sim\n{line}")?;
     match read_script(alloc, &script, true) {
-        Ok(items) => Ok(match items.last() {
-            Some(item) => matches!(&item.given, Given::Input(_)),
-            None => false,
-        }),
+        // the first is what attaches the simulators
+        Ok(items) => Ok(items.len() > 1),
         Err(ScriptFault::Line(_)) => Ok(false),
         Err(ScriptFault::NoMemory) => Err(AllocError),
     }
@@ -50,25 +48,31 @@ impl<A: Allocator + Copy> Origins<A> {
     pub(crate) fn new(alloc: A, script: &str) -> Result<Origins<A>, AllocError> {
         let mut numbers = Vec::new(alloc);
         for (index, line) in script.split('\n').enumerate() {
-            if gives_input(alloc, line)? {
+            if gives_item(alloc, line)? {
                 numbers.push(index.saturating_add(1))?;
             }
         }
-        Ok(Origins { numbers, came: 0 })
+        Ok(Origins { numbers, played: 0 })
+    }
+
+    /// The next line that gives something is played.
+    pub(crate) fn begin_line(&mut self) {
+        self.played = self.played.saturating_add(1);
+    }
+
+    /// The line that is played.
+    fn line(&self) -> Option<usize> {
+        self.numbers.get(self.played.checked_sub(1)?).copied()
     }
 
     /// Where the next input comes from.
-    pub(crate) fn next(&mut self, source: Source) -> Origin {
+    pub(crate) fn origin_of(&self, source: Source) -> Origin {
         match source {
             Source::Simulator => Origin::Simulator,
-            Source::Script => {
-                let number = self.numbers.get(self.came).copied();
-                self.came = self.came.saturating_add(1);
-                match number {
-                    Some(number) => Origin::Line(number),
-                    None => Origin::Untold,
-                }
-            }
+            Source::Script => match self.line() {
+                Some(number) => Origin::Line(number),
+                None => Origin::Untold,
+            },
         }
     }
 }

@@ -5,6 +5,7 @@ use crate::options::{SummaryForm, Views};
 use crate::origins::{Origin, Origins};
 use capture::RunCapture;
 use cell_table::SiteFault;
+use decision_words::Decisions;
 use ho_procedure::exchange::Outbound;
 use lab_runs::listener::{Listener, print_no_site, print_unreadable};
 use lab_runs::run::LabFault;
@@ -18,8 +19,8 @@ use std::alloc::{AllocError, Allocator, Global};
 use std::io::{self, Write};
 use trace_text::trace::{Mark, TraceLine, print_sent};
 
-/// Prints the trace of a run, with words and with what the books hold where that is asked for, and gathers its capture and its
-/// chart, and counts what it tells.
+/// Prints the trace of a run, with words, with what was decided and with what the books hold where that is asked for, and
+/// gathers its capture and its chart, and counts what it tells.
 #[derive(Drop)]
 pub struct Viewer<'a, W: Write, A: Allocator + Copy = Global> {
     out: &'a mut W,
@@ -27,6 +28,8 @@ pub struct Viewer<'a, W: Write, A: Allocator + Copy = Global> {
     words: bool,
     /// What the books hold, where it is to be printed.
     state: Option<StateLines<A>>,
+    /// What was decided by reports, where it is to be printed.
+    decisions: Option<Decisions<A>>,
     capture: Option<RunCapture<A>>,
     chart: Option<RunChart<A>>,
     /// What the lines came to, where it is to be shown or may be asked for.
@@ -67,6 +70,11 @@ impl<'a, W: Write, A: Allocator + Copy> Viewer<'a, W, A> {
             } else {
                 None
             },
+            decisions: if views.decisions {
+                Some(Decisions::new(alloc))
+            } else {
+                None
+            },
             capture,
             chart: views.chart.map(|_| RunChart::new(alloc, has_peer)),
             summary: views.summary.map(|_| RunSummary::new(alloc, has_peer)),
@@ -95,7 +103,7 @@ impl<'a, W: Write, A: Allocator + Copy> Viewer<'a, W, A> {
         self.has_begun
     }
 
-    /// The run is to be one of this script: which of its lines give inputs is noted, where that is to be shown.
+    /// The run is to be one of this script: which of its lines give something is noted, where that is to be shown.
     pub fn note_script(&mut self, script: &str) -> Result<(), AllocError> {
         if self.lines {
             self.origins = Some(Origins::new(self.alloc, script)?);
@@ -104,9 +112,9 @@ impl<'a, W: Write, A: Allocator + Copy> Viewer<'a, W, A> {
     }
 
     /// Where the next input comes from, where that is shown.
-    fn next_origin(&mut self, source: Source) -> Origin {
-        match &mut self.origins {
-            Some(origins) => origins.next(source),
+    fn origin_of(&self, source: Source) -> Origin {
+        match &self.origins {
+            Some(origins) => origins.origin_of(source),
             None => Origin::Untold,
         }
     }
@@ -188,14 +196,14 @@ impl<'a, W: Write, A: Allocator + Copy> Viewer<'a, W, A> {
         }
         let content = content_of(self.alloc, &TraceLine::Input(&turn.input))?;
         if is_out_of_stage(turn, &content) {
-            print_out_of_stage(self.out)?;
+            print_out_of_stage(self.out, &turn.input)?;
         }
         Ok(())
     }
 
     /// Shows the line of an input, with words also whether nothing comes of it.
     fn show_input(&mut self, mark: Mark, turn: &Turn<A>) -> Result<(), LabFault> {
-        let origin = self.next_origin(turn.source);
+        let origin = self.origin_of(turn.source);
         if !self.begin_line(mark, &TraceLine::Input(&turn.input), origin)? {
             return Ok(());
         }
@@ -297,6 +305,20 @@ impl<'a, W: Write, A: Allocator + Copy> Viewer<'a, W, A> {
         self.capture = None;
     }
 
+    /// Prints what was decided by a report, where that is asked for.
+    fn print_decision(
+        &mut self,
+        mark: Mark,
+        turn: &Turn<A>,
+        book: &Book<A>,
+    ) -> Result<(), LabFault> {
+        let only = self.only;
+        match &mut self.decisions {
+            Some(decisions) => decisions.print(self.out, mark, turn, book.site(), only),
+            None => Ok(()),
+        }
+    }
+
     /// Prints what a controller's book holds, where that is asked for.
     fn print_state(&mut self, mark: Mark, book: &Book<A>) -> Result<(), LabFault> {
         match &mut self.state {
@@ -307,11 +329,19 @@ impl<'a, W: Write, A: Allocator + Copy> Viewer<'a, W, A> {
 }
 
 impl<W: Write, A: Allocator + Copy> Listener<A> for Viewer<'_, W, A> {
+    fn hear_item(&mut self) -> Result<(), LabFault> {
+        if let Some(origins) = &mut self.origins {
+            origins.begin_line();
+        }
+        Ok(())
+    }
+
     fn hear_turn(&mut self, mark: Mark, turn: &Turn<A>, book: &Book<A>) -> Result<(), LabFault> {
         self.shown = 0;
         self.show_input(mark, turn)?;
         self.show_steps(mark, turn)?;
         self.show_answer(mark, &turn.answer)?;
+        self.print_decision(mark, turn, book)?;
         self.print_state(mark, book)
     }
 

@@ -1,4 +1,5 @@
-//! A run is printed with words where memory is refused. What is printed then `tests/commands/views.t` shows.
+//! A run is printed with words, and with what was decided, where memory is refused. What is printed then `views.t` and
+//! `decisions.t` of `tests/commands` show.
 use super::{SITE, holds_at, is_whole_or_cut};
 use lab::run::{LabFault, Status, run_for};
 use refusing_heap::RefusingHeap;
@@ -9,10 +10,11 @@ use std::process::Abort;
 use std::str;
 use std::test::Fail;
 
-/// Words alone.
-const WORDS: Views<'_> = Views {
+/// Words, and what was decided by reports.
+const SHOWN: Views<'_> = Views {
     words: true,
     state: false,
+    decisions: true,
     pcap: None,
     chart: None,
     summary: None,
@@ -20,22 +22,23 @@ const WORDS: Views<'_> = Views {
     call: None,
 };
 
-/// Runs a script over one site, with words.
+/// Runs a script over one site, with these views.
 fn show<A: Allocator + Copy, W: Write>(
     alloc: A,
     scratch: Global,
     script: &str,
     out: &mut W,
 ) -> Result<Status, LabFault> {
-    let mut viewer = Viewer::new(alloc, &WORDS, false, out)?;
+    let mut viewer = Viewer::new(alloc, &SHOWN, false, out)?;
     run_for(alloc, scratch, SITE, None, script, &mut viewer)
 }
 
-/// A mobile comes back: the script, and the lines of its trace with their words.
+/// A mobile is sent away by its reports, and comes back: the script, and the lines of its trace with their words.
 const RETURNED: (&str, &str) = (
     "open 1 0 0 3
 abis 0 0 0822010b080000
-handover 1 1
+abis 0 0 0828010b1b001903001e0004000b001206151e1e006812a000000000000000000000
+abis 0 0 0828010b1b001903001e0004000b001206151e1e006812a000000000000000000000
 abis 1 1 0822010b080000
 abis 0 0 0302010b02000b0003062801
 abis 1 1 0833010b
@@ -46,12 +49,22 @@ out abis 0 0 0821010b0300060400010801 # call 1; CHANNEL ACTIVATION tn=3 activati
 in abis 0 0 0822010b080000 # call 1; CHANNEL ACTIVATION ACK tn=3 frame=0
 event confirm 0/0/3 -> owned 1 # call 1
 event look 1 -> record 0/0/3 on # call 1
-in handover 1 1 # call 1
+in abis 0 0 0828010b1b001903001e0004000b001206151e1e006812a000000000000000000000 # call 1; MEASUREMENT RESULT tn=3 number=0 uplink=001e00 power=0 layer3=06151e1e006812a000000000000000000000; MEASUREMENT REPORT ba=0 dtx=0 full=30 ba3g=0 valid=1 sub=30 si23=0 qfull=0 qsub=0 count=1 n=40/2/21
+event owner 0/0/3 -> owned 1 # call 1
+event look 1 -> record 0/0/3 on # call 1
+decision call 1 window 1 of 2: serving 30, margin asks 33, minimum asks 10
+decision call 1 neighbour 2/21 level 40: cell 1, sum 40
+decision call 1 no candidate: the window isn't full
+in abis 0 0 0828010b1b001903001e0004000b001206151e1e006812a000000000000000000000 # call 1; MEASUREMENT RESULT tn=3 number=0 uplink=001e00 power=0 layer3=06151e1e006812a000000000000000000000; MEASUREMENT REPORT ba=0 dtx=0 full=30 ba3g=0 valid=1 sub=30 si23=0 qfull=0 qsub=0 count=1 n=40/2/21
+event owner 0/0/3 -> owned 1 # call 1
 event look 1 -> record 0/0/3 on # call 1
 event take 1 internal 1/1/3 -> done # call 1
 event reserve 1 0 -> done # call 1
 event activate 1 -> done # call 1
 out abis 1 1 0821010b03020604000108010900 # call 1; CHANNEL ACTIVATION tn=3 activation=2 mode=00010801 reference=0
+decision call 1 window 2 of 2: serving 60, margin asks 66, minimum asks 20
+decision call 1 neighbour 2/21 level 40: cell 1, sum 80
+decision call 1 candidate 1: tried, a channel is taken
 in abis 1 1 0822010b080000 # call 1; CHANNEL ACTIVATION ACK tn=3 frame=0
 event confirm 1/1/3 -> owned 1 # call 1
 event look 1 -> record 0/0/3 on internal confirmed 1/1/3 0 # call 1

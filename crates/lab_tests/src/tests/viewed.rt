@@ -24,6 +24,7 @@ const CHART_FILE: &str = "viewed.svg";
 const ALL: Views<'_> = Views {
     words: true,
     state: true,
+    decisions: true,
     pcap: Some(PCAP_FILE),
     chart: Some(CHART_FILE),
     summary: None,

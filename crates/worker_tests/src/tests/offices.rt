@@ -91,7 +91,8 @@ pub fn opened<
 fn given<A: Allocator>(item: Item<A>) -> Option<Inbound<A>> {
     match item.given {
         Given::Input(input) => Some(input),
-        Given::Attach | Given::Set(_) | Given::HangUp(_) => None,
+        Given::Attach | Given::Set(_) | Given::HangUp(_) | Given::Ask(_) | Given::MobileOf { .. } =>
+            None,
     }
 }
 

@@ -1,0 +1,48 @@
+//! The text of a trace, which may be a journal's file.
+use crate::files::text_of;
+use journal_records::FileFault;
+use journal_resume::{WholeFault, whole_octets};
+use lab_runs::run::LabFault;
+use screen_text::Escaped;
+use std::io::Write;
+use std::rt::Files;
+
+/// By this the text of a journal's file begins.
+const JOURNAL: &str = "gofnild journal ";
+
+/// How much of a text is a trace: of a journal's file all but a record at its end that was cut.
+fn whole_length(text: &str) -> Result<usize, WholeFault> {
+    if !text.starts_with(JOURNAL) {
+        return Ok(text.len());
+    }
+    match whole_octets(text.as_bytes()) {
+        Ok(whole) => Ok(whole.len()),
+        Err(WholeFault::File(FileFault::NotAJournal)) => Ok(text.len()),
+        Err(fault) => Err(fault),
+    }
+}
+
+/// The text of a trace's file, which may be a journal's; nothing where the file can't be read, or is a damaged journal's, and then
+/// its path was printed, and on `errors` why.
+pub(crate) fn trace_of<R: Files + AllocGlobal, W: Write, E: Write>(
+    rt: &R,
+    path: &str,
+    out: &mut W,
+    errors: &mut E,
+) -> Result<Option<String>, LabFault> {
+    let Some(text) = text_of(rt, path, out, errors)? else {
+        return Ok(None);
+    };
+    match whole_length(&text) {
+        Ok(length) if length == text.len() => Ok(Some(text)),
+        Ok(length) => {
+            let whole = text.get(..length).unwrap_or("");
+            Ok(Some(String::from_str(rt.alloc(), whole)?))
+        }
+        Err(fault) => {
+            writeln!(errors, "{}: {fault}", Escaped(path))?;
+            writeln!(out, "file {}", Escaped(path))?;
+            Ok(None)
+        }
+    }
+}

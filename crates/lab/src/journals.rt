@@ -1,0 +1,309 @@
+//! The journal of a live controller: opened, and ended.
+use cell_table::Site;
+use journal_files::{Folder, Journal, Listing, Locking, Lost};
+use journal_records::FIRST_LINE;
+use journal_resume::{HeadFault, ResumeFault, Resumed, head_body, resume, tell_sent, whole_octets};
+use lab_runs::run::LabFault;
+use lab_words::JournalWords;
+use live_runs::LiveFault;
+use radio_book::book::Book;
+use screen_text::{Escaped, Reason};
+use std::alloc::Global;
+use std::fmt;
+use std::io::{self, Write};
+use std::rt::Files;
+use std::sync::Arc;
+
+/// A journal that is opened, the book with which the controller goes on, and the file by which the folder is locked.
+#[derive(Drop)]
+pub(crate) struct Opened<'a, R: Files + AllocGlobal> {
+    pub(crate) journal: Journal<'a, R>,
+    pub(crate) book: Book,
+    pub(crate) lock: R::File,
+}
+
+/// The book of a file, the number of its last record, and how many octets it has without a record that was cut.
+#[derive(Drop)]
+struct Found {
+    book: Book,
+    last: u64,
+    whole: usize,
+    is_cut: bool,
+}
+
+/// Why no journal was opened, as far as `errors` wasn't told yet.
+enum OpenFault {
+    /// Memory was refused.
+    NoMemory,
+    /// Something can't be written.
+    Write,
+    /// What the system said of the folder or of a file in it.
+    System(io::Error),
+    /// It was told.
+    Told,
+}
+
+impl From<io::Error> for OpenFault {
+    fn from(error: io::Error) -> OpenFault {
+        if error.kind() == io::ErrorKind::OutOfMemory {
+            OpenFault::NoMemory
+        } else {
+            OpenFault::System(error)
+        }
+    }
+}
+
+/// Tells which files of the folder aren't the journal's.
+fn say_others<E: Write>(path: &str, listing: &Listing, errors: &mut E) -> Result<(), OpenFault> {
+    for name in &listing.others {
+        writeln!(
+            errors,
+            "{}/{}: not of the journal, and left alone",
+            Escaped(path),
+            Escaped(name.as_str())
+        )
+        .map_err(|_| OpenFault::Write)?;
+    }
+    Ok(())
+}
+
+/// Tells why a file is refused.
+fn refuse<F: fmt::Display + Drop, E: Write>(path: &str, fault: F, errors: &mut E) -> OpenFault {
+    match writeln!(errors, "{}: {fault}", Escaped(path)) {
+        Ok(()) => OpenFault::Told,
+        Err(_) => OpenFault::Write,
+    }
+}
+
+/// The book of the octets of a file that has this number in its name.
+fn found_in<E: Write>(
+    alloc: Global,
+    path: &str,
+    site: Arc<Site>,
+    site_sum: u32,
+    number: u64,
+    octets: &[u8],
+    errors: &mut E,
+) -> Result<Found, OpenFault> {
+    let Resumed { book, last, left } = match resume(alloc, site, site_sum, number, octets) {
+        Ok(resumed) => resumed,
+        Err(ResumeFault::NoMemory) => return Err(OpenFault::NoMemory),
+        Err(fault) => return Err(refuse(path, fault, errors)),
+    };
+    Ok(Found {
+        book,
+        last,
+        whole: octets.len().saturating_sub(left.len()),
+        is_cut: !left.is_empty(),
+    })
+}
+
+/// Tells with what a controller goes on.
+fn say_resumed<E: Write>(found: &Found, path: &str, errors: &mut E) -> io::Result<()> {
+    if found.is_cut {
+        writeln!(
+            errors,
+            "{}: the record behind line {} was cut, and is dropped",
+            Escaped(path),
+            found.last
+        )?;
+    }
+    let usage = found.book.usage();
+    writeln!(
+        errors,
+        "resumed after line {}: channels={} calls={}",
+        found.last, usage.channels, usage.calls
+    )
+}
+
+/// Tells once more what was sent for the lines of one file that stand behind one.
+fn tell_span<R: Files + AllocGlobal, W: Write, E: Write>(
+    folder: &Folder<'_, R>,
+    number: u64,
+    heard: u64,
+    out: &mut W,
+    errors: &mut E,
+) -> Result<(), OpenFault> {
+    let octets = folder.read_span(number)?;
+    match whole_octets(&octets) {
+        Ok(whole) => {
+            let (_first_line, records) = whole.split_at(FIRST_LINE.len().min(whole.len()));
+            tell_sent(out, records, heard).map_err(|_| OpenFault::Write)
+        }
+        Err(fault) => {
+            let path = folder.span_path(number).map_err(|_| OpenFault::NoMemory)?;
+            Err(refuse(&path, fault, errors))
+        }
+    }
+}
+
+/// Tells once more what was sent for the lines of all files that have lines behind one.
+fn tell_heard<R: Files + AllocGlobal, W: Write, E: Write>(
+    folder: &Folder<'_, R>,
+    spans: &[u64],
+    heard: u64,
+    out: &mut W,
+    errors: &mut E,
+) -> Result<(), OpenFault> {
+    for (place, number) in spans.iter().enumerate() {
+        let is_over = match spans.get(place.saturating_add(1)) {
+            Some(next) => *next <= heard,
+            None => false,
+        };
+        if !is_over {
+            tell_span(folder, *number, heard, out, errors)?;
+        }
+    }
+    out.flush().map_err(|_| OpenFault::Write)
+}
+
+/// Whether the line behind the one that was heard stands in a file that is there no more.
+fn is_gone(spans: &[u64], heard: u64) -> bool {
+    match spans.first() {
+        Some(first) => heard < *first,
+        None => false,
+    }
+}
+
+/// Goes on with the journal that a folder has.
+fn go_on<'a, R: Files + AllocGlobal, W: Write, E: Write>(
+    rt: &'a R,
+    folder: Folder<'a, R>,
+    words: JournalWords<'a>,
+    spans: Vec<u64>,
+    last_span: u64,
+    site: Arc<Site>,
+    site_sum: u32,
+    out: &mut W,
+    errors: &mut E,
+) -> Result<(Journal<'a, R>, Book), OpenFault> {
+    let alloc = rt.alloc();
+    let path = folder
+        .span_path(last_span)
+        .map_err(|_| OpenFault::NoMemory)?;
+    let octets = folder.read_span(last_span)?;
+    let found = found_in(alloc, &path, site, site_sum, last_span, &octets, errors)?;
+    if let Some(heard) = words.heard {
+        if is_gone(&spans, heard) || found.last < heard {
+            return Err(refuse(words.folder, "no file has the line that was heard", errors));
+        }
+    }
+    say_resumed(&found, &path, errors).map_err(|_| OpenFault::Write)?;
+    if let Some(heard) = words.heard {
+        tell_heard(&folder, &spans, heard, out, errors)?;
+    }
+    let Found {
+        book,
+        last,
+        whole,
+        is_cut: _,
+    } = found;
+    let (octets, _cut) = octets.split_at(whole.min(octets.len()));
+    let journal = Journal::go_on(alloc, folder, spans, octets, last, words.keep)?;
+    Ok((journal, book))
+}
+
+/// Begins a journal in a folder that has none.
+fn begin<'a, R: Files + AllocGlobal, E: Write>(
+    rt: &'a R,
+    folder: Folder<'a, R>,
+    words: JournalWords<'a>,
+    site: Arc<Site>,
+    site_sum: u32,
+    errors: &mut E,
+) -> Result<(Journal<'a, R>, Book), OpenFault> {
+    let alloc = rt.alloc();
+    let book = Book::new(alloc, site).map_err(|_| OpenFault::NoMemory)?;
+    let head = match head_body(alloc, site_sum, &book) {
+        Ok(head) => head,
+        Err(HeadFault::NoMemory) => return Err(OpenFault::NoMemory),
+        // no events lead from the empty book to itself
+        Err(HeadFault::Differs) => {
+            return Err(refuse(words.folder, "the journal can't be begun", errors));
+        }
+    };
+    let journal = Journal::begin(alloc, folder, head.as_bytes(), words.keep)?;
+    Ok((journal, book))
+}
+
+/// Opens the journal of a folder.
+fn try_to_open<'a, R: Files + AllocGlobal, W: Write, E: Write>(
+    rt: &'a R,
+    words: JournalWords<'a>,
+    site: Arc<Site>,
+    site_sum: u32,
+    out: &mut W,
+    errors: &mut E,
+) -> Result<Opened<'a, R>, OpenFault>
+where
+    R::File: Locking,
+{
+    let folder = Folder::new(rt, words.folder);
+    folder.make()?;
+    let Some(lock) = folder.lock()? else {
+        return Err(refuse(words.folder, "another controller has this journal", errors));
+    };
+    let listing = folder.list()?;
+    say_others(words.folder, &listing, errors)?;
+    let Listing { spans, others: _ } = listing;
+    let (journal, book) = match spans.last().copied() {
+        Some(last) => go_on(rt, folder, words, spans, last, site, site_sum, out, errors)?,
+        None => begin(rt, folder, words, site, site_sum, errors)?,
+    };
+    Ok(Opened {
+        journal,
+        book,
+        lock,
+    })
+}
+
+/// Opens the journal of a folder: goes on with the one that is there, or begins one. Nothing where it is refused, as `errors` then
+/// says; no file was changed then.
+pub(crate) fn open_journal<'a, R: Files + AllocGlobal, W: Write, E: Write>(
+    rt: &'a R,
+    words: JournalWords<'a>,
+    site: Arc<Site>,
+    site_sum: u32,
+    out: &mut W,
+    errors: &mut E,
+) -> Result<Option<Opened<'a, R>>, LabFault>
+where
+    R::File: Locking,
+{
+    match try_to_open(rt, words, site, site_sum, out, errors) {
+        Ok(opened) => Ok(Some(opened)),
+        Err(OpenFault::NoMemory) => Err(LabFault::NoMemory),
+        Err(OpenFault::Write) => Err(LabFault::Write),
+        Err(OpenFault::Told) => Ok(None),
+        Err(OpenFault::System(error)) => {
+            writeln!(errors, "{}: {}", Escaped(words.folder), Reason(&error))?;
+            Ok(None)
+        }
+    }
+}
+
+/// How a run with a journal ended. Where it ended because the journal was lost, `errors` says why. One that went on without its
+/// journal ends as one whose output couldn't be written.
+pub(crate) fn ended_journal<E: Write>(
+    ended: Result<(), LiveFault>,
+    lost: Option<Lost>,
+    lacks_memory: bool,
+    folder: &str,
+    errors: &mut E,
+) -> Result<Result<(), LiveFault>, LabFault> {
+    if lacks_memory {
+        return Ok(Err(LiveFault::NoMemory));
+    }
+    let Some(lost) = lost else {
+        return Ok(ended);
+    };
+    match ended {
+        Ok(()) => Ok(Err(LiveFault::Write)),
+        Err(LiveFault::Write) => {
+            let (folder, error) = (Escaped(folder), lost.error());
+            writeln!(errors, "{folder}: {}; the controller ends", Reason(&error))?;
+            Ok(Err(LiveFault::Write))
+        }
+        Err(fault) => Ok(Err(fault)),
+    }
+}
