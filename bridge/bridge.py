@@ -8,6 +8,7 @@ import socket
 import stat
 import subprocess
 
+from again import Again
 from figures import FiguresFile
 from links import Links
 from log import Log
@@ -30,7 +31,7 @@ class Bridge:
 
     def __init__(self, words, make_relay=Relay):
         """`words` are the settings: `stations`, `seconds`, `bind`, `port`, `log`, `control`, `figures`, `figures_every`,
-        `messages`, and `core`, the controller's command."""
+        `messages`, `again`, and `core`, the controller's command."""
         self.words = words
         self.selector = selectors.PollSelector()
         self.times = Times()
@@ -43,7 +44,9 @@ class Bridge:
         self.listeners = []
         self.control = self.figures = None
         self.core = None
-        self.is_ending = False
+        self.again = self.relay.again = Again(self, words.core, words.again)
+        # whether all ends, and whether the controller was killed for that
+        self.is_ending = self.is_killed = False
 
     def start(self):
         """Opens what is to be open, the controller last."""
@@ -59,7 +62,7 @@ class Bridge:
         if words.figures:
             self.figures = FiguresFile(words.figures, words.figures_every, self.times, self.relay.figures)
         self.watch_signals()
-        self.start_core(words.core)
+        self.again.start()
         self.hear_operator()
         only = f", for stations of this machine alone ({self.BIND})" if words.bind.startswith(("127.", "::1")) else ""
         say(f"listens on {words.bind}, port {listener.getsockname()[1]}{only}")
@@ -75,13 +78,16 @@ class Bridge:
             os.set_blocking(number, False)
         lines = Lines(self.relay.hear)
         self.relay.core = Stream(self.selector, reads, writes, lines.add, lambda: self.core_ended(lines), self.core_unread)
-        said = Lines(self.relay.hear_error)
+        said = Lines(self.hear_error)
         self.errors = Stream(self.selector, errors, None, said.add, lambda: self.errors_ended(said))
 
     def core_unread(self):
-        """The controller reads no more. What it still sends is handed on."""
+        """The controller reads no more. What it still sends is handed on, or comes again from its journal."""
         self.relay.core.is_last = True
-        if not self.is_ending:
+        if self.again.goes_on() and not self.is_ending:
+            self.relay.is_away = True
+            self.kill_core()
+        elif not self.is_ending:
             self.end("the controller reads no more")
 
     def hear_operator(self):
@@ -161,6 +167,7 @@ class Bridge:
     def end(self, why):
         """Ends the controller, and then all else. Asked for again, it kills the controller."""
         if self.is_ending:
+            self.is_killed = True
             self.kill_core()
             return
         self.is_ending = True
@@ -170,13 +177,19 @@ class Bridge:
             if listener in self.selector.get_map():
                 self.selector.unregister(listener)
             listener.close()
-        if self.relay.core:
-            self.relay.core.finish()
-            self.times.set("end", LAST, self.kill)
+        if self.relay.core and not self.relay.is_away:
+            self.finish_core()
+        # one that is away goes on first: what waits is given to it yet
+
+    def finish_core(self):
+        """Has the controller end, behind the lines that it has."""
+        self.relay.core.finish()
+        self.times.set("end", LAST, self.kill)
 
     def kill(self):
         """Kills a controller that doesn't end."""
         say(f"the controller doesn't end in {LAST:g} seconds, and is killed")
+        self.is_killed = True
         self.kill_core()
 
     def kill_core(self):
@@ -193,19 +206,31 @@ class Bridge:
             return self.core.wait()
 
     def core_ended(self, lines):
-        """The controller has ended."""
-        if rest := lines.end():
+        """The controller has ended. Where it is started again, half a line comes again from its journal."""
+        rest, is_untimely = lines.end(), self.relay.is_away or not self.is_ending or self.again.is_untimely()
+        if rest and not (is_untimely and self.again.goes_on()):
             self.relay.hear(rest)
-        self.relay.core.leave()
+        self.relay.core.close()
         self.relay.core = None
-        if not self.is_ending:
-            self.end("the controller has ended")
+        if is_untimely:
+            self.again.ended()
+
+    def hear_error(self, line):
+        """Hears what the controller says on standard error."""
+        if not self.again.hears(line):
+            self.relay.hear_error(line)
 
     def errors_ended(self, lines):
         """The controller says nothing more on standard error."""
         if rest := lines.end():
-            self.relay.hear_error(rest)
-        self.errors.leave()
+            self.hear_error(rest)
+        self.errors.close()
+
+    def close_errors(self):
+        """Hears what a controller that has ended still said on standard error."""
+        while self.errors.reads is not None and select.select([self.errors.reads], [], [], 0)[0]:
+            self.errors.read()
+        self.errors.close()
 
     def pause(self, is_busy):
         """Reads nothing for the controller while it is busy."""
@@ -215,8 +240,8 @@ class Bridge:
         self.operator.pause("busy", is_busy)
 
     def run(self):
-        """Does what comes, until the controller has ended; its status."""
-        while self.relay.core:
+        """Does what comes, until the controller has ended; its status, which is 1 where none can go on."""
+        while self.relay.core or self.relay.is_away:
             # what a link has left has its turn without delay
             self.take_what_comes(0 if self.links.behind else self.times.seconds_left())
             self.links.take_turns()
@@ -226,13 +251,12 @@ class Bridge:
         for link in list(self.links.all):
             link.close()
         status = self.status_of_core()
-        while self.errors.reads is not None and select.select([self.errors.reads], [], [], 0)[0]:
-            self.errors.read()
+        self.close_errors()
         self.relay.tell_all()
         if self.relay.log:
             self.relay.log.finish()
         say(f"the controller ended with status {status}; lines that it couldn't read: {self.relay.unread}")
-        return status if status >= 0 else 1
+        return status if status > 0 else int(status < 0 or self.again.has_failed)
 
     def take_what_comes(self, seconds):
         """Waits so long for something, and takes what comes: each socket once."""

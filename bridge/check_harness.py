@@ -1,5 +1,11 @@
-"""The checks of the checks: they wait for what is to come, however long that takes, and notice what stays."""
-from harness import Unmet, must
+"""The checks of the checks: they wait for what is to come, however long that takes, and notice what stays; and what the
+demonstrations begin ends with them."""
+import os
+import signal
+import subprocess
+import sys
+
+from harness import FOLDER, LIMIT, LeftOut, Unmet, children, must
 from network_harness import CLEAR, begin, clear, emptied, leave, register, say, sent
 
 
@@ -56,4 +62,58 @@ def what_stays(start, _room, _program):
     must(not ends(run), "a call that goes on isn't noticed")
 
 
-CHECKS = [a_slow_station, what_stays]
+# A demonstration that begins something and waits for it. It may take so many seconds.
+DEMONSTRATION = """
+import signal, subprocess, sys
+# where this is begun in the background, it would be ignored
+signal.signal(signal.SIGINT, signal.default_int_handler)
+sys.dont_write_bytecode = True
+sys.path.insert(0, {folder!r})
+from demonstration import enter
+if (status := enter("it", ("sleep",), "none", int(sys.argv[1]))) is not None:
+    sys.exit(status)
+begun = subprocess.Popen(("sleep", "1000"))
+print("there", flush=True)
+begun.wait()
+"""
+
+
+def ends_with_all(_start, room, _program):
+    """A demonstration is killed midway, or takes too long: nothing that it began stays. It needs namespaces, and is left out where
+    there are none."""
+    path = room / "demonstration"
+    path.write_text(DEMONSTRATION.format(folder=str(FOLDER)))
+    for number in (signal.SIGKILL, signal.SIGTERM, signal.SIGINT):
+        begun = demonstrate(path, 1000)
+        begun.send_signal(number)
+        ends_so(begun, number)
+    begun = demonstrate(path, 1000)
+    os.kill(children(begun.pid)[0], signal.SIGKILL)
+    ends_so(begun, "its unshare is killed")
+    said = ends_so(demonstrate(path, 1, is_awaited=False), "it takes too long")
+    must(said == "it: isn't done in 1 seconds, and is killed\n" and begun.returncode != 0, f"it says {said!r}")
+
+
+def demonstrate(path, seconds, is_awaited=True):
+    """Begins a demonstration, and waits until it is there."""
+    words = [sys.executable, path, str(seconds)]
+    settings = os.environ | {"TMPDIR": str(path.parent)}
+    pipe = subprocess.PIPE
+    begun = subprocess.Popen(words, env=settings, stdout=pipe, stderr=pipe, text=True)
+    line = begun.stdout.readline() if is_awaited else "there\n"
+    if "left out" in line:
+        begun.communicate(timeout=LIMIT)
+        raise LeftOut(line.strip())
+    must(line == "there\n", f"it says {line!r}")
+    return begun
+
+
+def ends_so(begun, why):
+    """Waits until all that has this demonstration's output has ended; what it said on standard error."""
+    try:
+        return begun.communicate(timeout=LIMIT)[1]
+    except subprocess.TimeoutExpired as error:
+        raise Unmet(f"something stays: {why}") from error
+
+
+CHECKS = [a_slow_station, what_stays, ends_with_all]

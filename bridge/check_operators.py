@@ -47,6 +47,21 @@ def operators(start, room, _program):
     must("summary" not in (room / "log").read_text(), "the log has a line that no script has")
 
 
+def two_summaries(start, room, _program):
+    """Two operators ask for a summary at once: each gets one, and no line of the other's."""
+    bridge = start("--control", "control")
+    one, other = Asker(room / "control"), Asker(room / "control")
+    bridge.process.send_signal(signal.SIGSTOP)
+    for it in (one, other):
+        it.ask("summary\n")
+    bridge.process.send_signal(signal.SIGCONT)
+    answers = [it.leave() for it in (one, other)]
+    must(answers[0] == answers[1], f"they are told {answers}")
+    must(sum("calls opened" in line for line in answers[0]) == 1, f"one is told {answers[0]}")
+    bridge.process.terminate()
+    bridge.wait(0)
+
+
 def torn_line(start, room, _program):
     """An operator's line without its line feed isn't carried out."""
     bridge = start("--control", "control")
@@ -88,7 +103,8 @@ def the_help(start, _room, _program):
     bridge.expect("^#: nothing$")
     told = {re.split("[ :]", line)[0] for line in bridge.out.lines if ": " in line} - {"#"}
     simulated = {word.decode() for word in SIMULATED}
-    must(told == {*taken} - simulated | {"summary", "help", "stations", "calls", "watch", "reopen"}, f"it has {sorted(told)}")
+    own = {"summary", "help", "stations", "calls", "watch", "reopen", "upgrade"}
+    must(told == {*taken} - simulated | own, f"it has {sorted(told)}")
     bridge.end()
 
 
@@ -312,6 +328,7 @@ def full_disk(start, room, _program):
 
 CHECKS = [
     operators,
+    two_summaries,
     torn_line,
     torn_at_standard_input,
     the_help,

@@ -82,7 +82,9 @@ def family_of(name, kind, text, label, counts):
 def of_stations(relay):
     """The figures of the bridge of stations."""
     left_out = Family("gofnild_output_lines_left_out", COUNTER, "Lines of standard output that nobody read in time.")
-    return [*of_links(relay), *of_book(relay), *of_lines(relay), left_out.add(OUTPUT.left_out)]
+    up = Family("gofnild_controller_up", GAUGE, "Whether the controller takes lines.").add(int(not relay.is_away))
+    again = Family("gofnild_controller_restarts", COUNTER, "How often the controller was started again.").add(relay.again.count)
+    return [up, again, *of_links(relay), *of_book(relay), *of_lines(relay), left_out.add(OUTPUT.left_out)]
 
 
 def of_links(relay):

@@ -84,8 +84,8 @@ class Lines:
 class Bridge:
     """A bridge that runs, with its controller."""
 
-    def __init__(self, core, room, options, stations):
-        self.run([FOLDER / "abis", *options, *stations, "--", *core], room)
+    def __init__(self, core, room, options, stations, abis=FOLDER / "abis"):
+        self.run([abis, *options, *stations, "--", *core], room)
 
     def run(self, words, room):
         """Starts it."""
@@ -142,6 +142,24 @@ class Bridge:
     def last_words(self):
         """What it said last."""
         return "\n    ".join(["  it said last:", *self.said.lines[-12:]])
+
+
+def child(bridge):
+    """The process of a bridge's controller."""
+    return children(bridge.process.pid)[0]
+
+
+def children(parent):
+    """The processes that a process has begun, and that haven't ended."""
+    found = []
+    for path in pathlib.Path("/proc").glob("[0-9]*/stat"):
+        # one may be gone meanwhile
+        with contextlib.suppress(OSError):
+            # behind the name, in which anything may stand
+            state, its_parent = path.read_text().rpartition(") ")[2].split()[:2]
+            if int(its_parent) == parent and state != "Z":
+                found.append(int(path.parent.name))
+    return found
 
 
 class Asker:

@@ -41,7 +41,7 @@ class Log:
             os.fchmod(self.file, 0o600)
             if torn := self.cut(os.fstat(self.file).st_size):
                 say(f"{self.path}: its last line has no line feed: {torn} octets are cut off")
-        self.put(f"# {stamp()} the log begins, or goes on, here\n".encode())
+        self.note("the log begins, or goes on, here")
 
     def open_anew(self):
         """Opens the file anew, as after it was moved away; what came of that."""
@@ -72,6 +72,10 @@ class Log:
         """Writes a line, with the time, and with who gave it."""
         self.put(f"# {stamp()}{f' {who}' if who else ''}\n".encode(errors="replace") + line + b"\n")
 
+    def note(self, text):
+        """Writes a comment, with the time."""
+        self.put(f"# {stamp()} {text}\n".encode())
+
     def put(self, text):
         """Writes whole lines, behind those that wait."""
         if self.missing or len(self.waiting) > MOST_WAITING:
@@ -97,7 +101,7 @@ class Log:
             self.is_full, missing, self.missing = False, self.missing, 0
             say(f"{self.path}: the log goes on; lines that are missing: {missing}")
             if missing:
-                self.put(f"# {stamp()} {missing} lines are missing here\n".encode())
+                self.note(f"{missing} lines are missing here")
 
     def write_piece(self):
         """Writes the first of the lines that wait, and no half of one."""

@@ -4,6 +4,7 @@ checks play with.
 What is expected are octets that osmo-bsc, osmo-msc and osmo-bts sent one another, and what the layouts of the standards
 make of them for other channels and numbers.
 """
+import json
 import os
 import re
 import time
@@ -45,7 +46,7 @@ ncc = 1
 bcc = 3
 """
 CONFIG = """
-controller = ["{program}", "live"]
+controller = {controller}
 site = "site.toml"
 awaited = {awaited}
 pagings = {pagings}
@@ -103,8 +104,11 @@ TAKEN, MOVE = f"001d121709062b093c09203c0005{SPEAKS}", "062b0a460940460005"
 class Run(Bridge):
     """A network that runs, with its centre and its stations."""
 
-    def __init__(self, program, room, port=None, acknowledges=True, centre=None, site=SITE, path=None, words=(), **options):
-        """`path` is where programs are looked for, `words` are options of the command line; others are keys of CONFIG."""
+    def __init__(
+        self, program, room, port=None, acknowledges=True, centre=None, site=SITE, path=None, words=(), core=None, **options
+    ):
+        """`path` is where programs are looked for, `words` are options of the command line, `core` is the controller's command
+        without its site; others are keys of CONFIG."""
         self.centre = centre or TestCentre()
         self.centre.acknowledges = acknowledges
         self.gateway = TestGateway()
@@ -117,7 +121,8 @@ class Run(Bridge):
         lines = "\n".join(f"{name} = {seconds}" for name, seconds in options.items())
         (room / "site.toml").write_text(site)
         ports = {"port": port or self.centre.port, "gateway": self.gateway.port}
-        config = CONFIG.format(program=program, timers=lines, **ports, **keys)
+        controller = json.dumps([str(word) for word in core or (program, "live")])
+        config = CONFIG.format(controller=controller, timers=lines, **ports, **keys)
         (room / "config.toml").write_text(config)
         self.run(["env", f"PATH={path or os.environ['PATH']}", FOLDER / "network", room / "config.toml", *words], room)
 

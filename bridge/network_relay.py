@@ -107,6 +107,10 @@ class NetworkRelay(Relay):
 
     # The controller
 
+    def reserve(self, number):
+        """A number of a call isn't to be given to another."""
+        self.talks.reserved.add(number)
+
     def act(self, line):
         """Does what a line of the controller says."""
         super().act(line)

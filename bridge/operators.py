@@ -1,4 +1,5 @@
 """Operators: what they may ask, and who is told what came of it."""
+import os
 import re
 import socket
 import struct
@@ -7,7 +8,7 @@ from stream import MOST_WAITING, Lines, Stream
 from tell import show
 
 # Keywords of what is simulated: none of it is there.
-SIMULATED = (b"sim", b"refuse", b"hold", b"let", b"mobile", b"double", b"cut", b"hangup")
+SIMULATED = (b"report", b"answer", b"sim", b"refuse", b"hold", b"let", b"mobile", b"double", b"cut", b"hangup")
 # After how many seconds without another line an operator who has asked all is answered to the end.
 QUIET = 0.5
 # How many lines of an input may come before it is known of which call it is.
@@ -19,6 +20,7 @@ stations: the stations: since when each is there, its channels, its messages
 calls: the channels in use: of which call and since when, how the station has them, and whether that agrees; lost calls
 watch: from here on all that the controller prints; watch CALL: what comes of this call; watch off: no more of that
 summary: what came so far, counted in all and for each cell: calls, attempts at handover and their ends, messages, faults
+upgrade PROGRAM: the controller ends, and PROGRAM goes on with its calls, if it takes the journal
 reopen: the log is opened anew, as after it was moved away
 help: this
 open CALL CELL TRX TN: a call begins on a channel, TN as 3, or 3/0 and 3/1 for halves of a timeslot
@@ -52,6 +54,8 @@ class Operator:
             self.tell(*(station.known() for station in self.relay.stations.values()))
         elif words == [b"calls"]:
             self.tell(*self.relay.views.channels())
+        elif words[0] == b"upgrade":
+            self.relay.again.upgrade(self, os.fsdecode(line.strip()[len(words[0]) :].strip()))
         elif words == [b"reopen"]:
             log = self.relay.log
             self.tell(log.open_anew() if log else "refused: reopen: there is no log")

@@ -23,8 +23,10 @@ DISARMING = ("complete", "undo", "left")
 CAME = re.compile(rb"in abis (\d+) (\d+) ([0-9a-f]*)")
 SENT = re.compile(rb"out abis (\d+) (\d+) ([0-9a-f]*)")
 SENT_ON_A = re.compile(rb"out a (\d+) ([0-9a-f]*)")
-# The first of the lines that answer what came so far (docs/PROGRAM.md, live).
+# The first of the lines that answer what came so far (docs/PROGRAM.md, live): it isn't echoed, nor in a journal.
 FIRST_OF_SUMMARY = re.compile(rb"summary all +\d+ calls opened")
+# How the lines of its answers begin that a journal has too.
+NOTED = (b"in ", b"line ", b"event ", b"none free ", b"fault ", b"out ")
 # Why the controller can't read a line, by its number, and how long that is waited for.
 REASON = re.compile(rb"standard input:(\d+): (.*)")
 SOON = 2.0
@@ -60,6 +62,13 @@ class Relay:
         # By number: lines that can't be read, each with who gave it, and why that is.
         self.unreadable, self.reasons = {}, {}
         self.unread = 0
+        # The line that was answered last, and how many lines of the answer were heard, of those that a journal notes; None for
+        # all of them. Whether the controller isn't there just now, so that lines wait, and how many octets do.
+        self.line, self.heard = 0, None
+        self.is_away, self.held = False, 0
+        # whether it has done all that it was given, and ended
+        self.is_done = False
+        self.again = None
         # what came of lines, by how the controller's lines begin; and events, by name and reply
         self.counts, self.events = collections.Counter(), collections.Counter()
         self.calls = Calls()
@@ -75,18 +84,23 @@ class Relay:
 
     def give(self, line, giver="bridge", answered=None):
         """Gives the controller a line; of a station perhaps with what it was asked that this answers."""
-        if self.core is None or self.core.is_last:
+        if not self.is_away and (self.core is None or self.core.is_last):
             say(f"not given, the controller ends: {shown(line)}")
             return
         self.given.append((line, giver, answered))
-        self.core.send(line + b"\n")
+        if self.is_away:
+            self.held += len(line)
+        else:
+            self.core.send(line + b"\n")
 
     def is_busy(self):
-        """Whether the controller has more to read than it should."""
-        return self.core is not None and len(self.core.waiting) > MOST_UNREAD
+        """Whether the controller has more to read than it should, or will have."""
+        return self.held > MOST_UNREAD or self.core is not None and len(self.core.waiting) > MOST_UNREAD
 
     def is_awaited(self, operator):
         """Whether something is yet to come of an operator's lines."""
+        if self.again and self.again.upgrading and self.again.upgrading.operator is operator:
+            return True
         return any(giver is operator for _, giver, *_ in (*self.given, *self.unreadable.values()))
 
     def give_message(self, cell, trx, message, giver="bridge", answered=None):
@@ -97,8 +111,15 @@ class Relay:
 
     def hear(self, line):
         """Hears a line of the controller, and does what it says."""
+        if line.startswith(b"end "):
+            if self.is_away:
+                # another goes on
+                return
+            self.is_done = True
         if line.startswith((b"in ", b"line ")) or FIRST_OF_SUMMARY.match(line):
             self.begin_answer(line)
+        if line.startswith(NOTED):
+            self.heard = (self.heard or 0) + 1
         if isinstance(self.giver, Operator):
             self.giver.hear(line)
         for watcher in self.watchers - {self.giver}:
@@ -135,15 +156,25 @@ class Relay:
             self.release_stray(Channel.of(event.about))
 
     def begin_answer(self, line):
-        """The controller begins to answer the next line that it has. One that gives something goes to the log: not one that asks for
-        a summary, which no script has."""
+        """The controller begins to answer the next line that it has. One that it could read goes to the log."""
+        self.line, self.heard = self.line + 1, 0
         if not self.given:
             return
         text, self.giver, self.answered = self.given.popleft()
         if line.startswith(b"line "):
             self.unreadable[int(line.split()[1])] = (text, self.giver)
-        elif self.log and not line.startswith(b"summary "):
+        elif self.log and line.startswith(b"in "):
             self.log.write(text, None if isinstance(self.giver, Station) else self.giver)
+
+    def pass_line(self):
+        """What a controller that has ended would have told of a line, its journal doesn't have, as of one that asks for a summary:
+        the line is given again."""
+        self.line, self.heard = self.line + 1, None
+        if self.given:
+            self.given.append(self.given.popleft())
+
+    def reserve(self, number):
+        """A number of a call isn't to be given to another: here operators give all numbers."""
 
     def await_reason(self, number):
         """A line can't be read: why, the controller says on standard error, which comes sooner or later."""

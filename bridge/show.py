@@ -1,6 +1,10 @@
 """What the scenes of bridge/telephones play with: bridges that run, the network around them, and mobiles."""
 import json
+import os
+import pathlib
 import re
+import signal
+import tempfile
 import time
 
 from core_network import CELLS, GATEWAY, GATEWAY_TERMINAL, ask
@@ -16,20 +20,76 @@ EMPTY = 40
 # How many frames of two seconds' speech, which are a hundred, have to be said, and how many may be lost; and how often they may
 # speak until it is so.
 LEAST_SAID, MOST_LOST, TRIES = 90, 10, 5
+# A controller that says which process it is, and doesn't begin, or go on, while it is held.
+CONTROLLER = """#!/bin/sh
+echo $$ > "{folder}/process"
+while [ -e "{folder}/hold" ]; do sleep 0.05; done
+exec "{program}" "$@"
+"""
 
 
 class Run(Bridge):
-    """A bridge of a network that runs, by its CONFIG. Over M3UA it has another port and another point code."""
+    """A bridge of a network that runs, by its CONFIG. Over M3UA it has another port and another point code. Its controller has a
+    journal, and is started again where it ends."""
 
     def __init__(self, program, room, settings, transport="ipa", name="network"):
-        text = (FOLDER / f"{name}.toml").read_text().replace('["./lab", "live"]', json.dumps([str(program), "live"]))
+        self.folder = pathlib.Path(tempfile.mkdtemp(dir=room))
+        self.program = program
+        words = json.dumps([str(self.controller("controller")), "live", "--journal", str(self.folder / "journal")])
+        text = (FOLDER / f"{name}.toml").read_text().replace('["./lab", "live"]', words)
         if transport == "m3ua":
             text = text.replace('"ipa"', '"m3ua"').replace("port = 5000", "port = 2905").replace('"0.42.1"', '"0.42.2"')
         self.site = FOLDER / f"{name}_site.toml"
         (room / f"{name}.toml").write_text(text)
         (room / self.site.name).write_text(self.site.read_text())
         preload = f"LD_PRELOAD={(settings or {}).get('LD_PRELOAD', '')}"
-        self.run(["env", preload, FOLDER / "network", room / f"{name}.toml", "--log", f"{name}.log"], room)
+        self.room, self.name, self.count = room, name, 0
+        self.words = ["env", preload, FOLDER / "network", room / f"{name}.toml", "--again", "1000"]
+        self.begin()
+
+    def begin(self):
+        """A bridge begins."""
+        self.run([*self.words, "--log", f"{self.name}{self.count}.log"], self.room)
+
+    def begin_anew(self):
+        """The bridge is killed, and once its controller has ended another one begins over the journal."""
+        self.process.kill()
+        self.process.wait()
+        # this is the first process of its namespace, to which those fall whose parent is gone
+        os.waitpid(self.controllers_number(), 0)
+        self.count += 1
+        self.begin()
+
+    def controllers_number(self):
+        """The number of the controller's process."""
+        return int((self.folder / "process").read_text())
+
+    def trace(self):
+        """Where the trace is: what came of all lines; of a bridge that began anew the journal's."""
+        if self.count:
+            return max((self.folder / "journal").glob("*.journal"))
+        path = self.folder / "trace"
+        path.write_text("\n".join(self.out.lines) + "\n")
+        return path
+
+    def controller(self, name):
+        """A controller of a name."""
+        path = self.folder / name
+        path.write_text(CONTROLLER.format(folder=self.folder, program=self.program))
+        path.chmod(0o755)
+        return path
+
+    def hold(self):
+        """From now on no controller begins."""
+        (self.folder / "hold").touch()
+
+    def let_go(self):
+        """One may begin."""
+        (self.folder / "hold").unlink()
+
+    def kill(self):
+        """Kills the controller, as a power cut would."""
+        os.kill(self.controllers_number(), signal.SIGKILL)
 
     def is_empty(self):
         """Waits until no channel is in use."""
@@ -165,6 +225,15 @@ class Show:
             during = None
         raise Unmet(f"{lost} frames of {said} are lost")
 
+    def lose_nothing(self, one, two, during):
+        """Two telephones speak for two seconds while something is done, and hear all of it. A busy machine is given more time: it
+        is done again."""
+        for _ in range(TRIES):
+            said, lost = self.speak(one, two, during)
+            if min(said) >= LEAST_SAID and max(lost) == 0:
+                return
+        raise Unmet(f"{lost} frames of {said} are lost")
+
     def from_now(self):
         """What the bridges have said up to now isn't waited for any more."""
         for run in filter(None, (self.run, self.second)):
@@ -177,12 +246,16 @@ class Show:
         self.expect_of(run, *patterns, seconds=seconds)
 
     def expect_of(self, run, *patterns, seconds=30):
-        """Waits for lines of a bridge, while speech goes on."""
+        """Waits for lines of a bridge's controller, while speech goes on."""
+        self.expect_in(run.out, *patterns, seconds=seconds)
+
+    def expect_in(self, lines, *patterns, seconds=30):
+        """Waits for lines, while speech goes on."""
         for pattern in patterns:
             end = time.monotonic() + seconds
             while True:
                 try:
-                    run.out.expect(pattern, 0)
+                    lines.expect(pattern, 0)
                     break
                 except Unmet:
                     if time.monotonic() > end:

@@ -1,6 +1,8 @@
 """The site file of a controller, as far as the bridge reads it: which cells and TRX there are. The controller checks it."""
 import pathlib
 
+from journal import VALUED
+
 try:
     import tomllib
 except ImportError:  # before Python 3.11
@@ -10,7 +12,8 @@ except ImportError:  # before Python 3.11
 def site_of(core):
     """The path of the site among the words of a controller's command, behind `live`; None where there is none."""
     behind = core[core.index("live") + 1 :] if "live" in core else []
-    return next((word for word in behind if not word.startswith("-")), None)
+    words = [word for before, word in zip(["", *behind], behind) if not word.startswith("-") and before not in VALUED]
+    return next(iter(words), None)
 
 
 def carriers(path):

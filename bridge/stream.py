@@ -210,6 +210,13 @@ class Stream:
                 self.selector.unregister(it)
         self.reads = self.writes = None
 
+    def close(self):
+        """Waits for nothing any more, and closes the files."""
+        files = {self.reads, self.writes} - {None}
+        self.leave()
+        for number in files:
+            os.close(number)
+
 
 class Writer:
     """A file that may take long to be written to, as a terminal that is stopped: a thread of its own writes to it. What too

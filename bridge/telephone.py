@@ -44,6 +44,8 @@ class Telephone(Handset):
         self.number = number
         self.tmsi = self.paged = None
         self.moving, self.moved = Moving.ARRIVES, 0
+        # the last HANDOVER COMMAND
+        self.command = None
         self.has_mode = self.is_called = self.was_released = False
         self.short, self.short_messages = Link(3, SLOW_ROOM, self.put_slow, self.take_short), []
         self.voice = Voice(self)
@@ -120,16 +122,21 @@ class Telephone(Handset):
             super().take(message)
 
     def move(self, command):
-        """Is sent to another channel (TS 44.018, 9.1.15): its cell's carrier, the channel and its carrier."""
+        """Is sent to another channel."""
         self.moved += 1
+        self.command = command
         if self.moving is Moving.VANISHES:
             self.vanish()
         elif self.moving is Moving.COMES_BACK:
             self.come_back()
         elif self.moving is Moving.ARRIVES:
-            self.go((command[5] & 3) << 8 | command[6], command[4:7])
-            self.link.open()
-            self.link.say(ARRIVED)
+            self.arrive()
+
+    def arrive(self):
+        """Goes to the channel to which it was sent last (TS 44.018, 9.1.15): its cell's carrier, the channel and its carrier."""
+        self.go((self.command[5] & 3) << 8 | self.command[6], self.command[4:7])
+        self.link.open()
+        self.link.say(ARRIVED)
 
     def come_back(self):
         """Didn't find the other channel: its link is begun anew on this one (TS 44.018, 3.4.4.4)."""

@@ -1,0 +1,266 @@
+"""A controller that ends is started again, over its journal, and the bridge goes on: stations, the centre's connections and
+the gateway notice nothing but a wait. What they send meanwhile waits in the order in which it came; where that is too much
+they are read no more. Timers run on.
+
+The journal has what came of each line, noted before anything of it left. So what the bridge hasn't heard yet it reads there,
+and does: of a line of which it heard a part, the rest. Then the lines that the journal doesn't have are given once more. So
+each line is done once."""
+import re
+import shutil
+import time
+
+import bssmap
+import rsl
+from calls import OFF, ON, PENDING, Event
+from journal import Journal, JournalError
+from operators import shown
+from tell import say
+
+# In how many seconds a controller may end so often, and how long it may take to go on over its journal, or to end for another.
+PERIOD, LONGEST = 60.0, 120.0
+# After which time is looked again whether it is gone.
+SOON = 0.02
+# What it says once it goes on.
+RESUMED = re.compile(rb"resumed after line (\d+): .*")
+
+
+class Upgrade:
+    """A program that is to take a controller's place."""
+
+    def __init__(self, operator, program, old):
+        """`old` is the command until now."""
+        self.operator, self.program, self.old = operator, program, old
+        self.new = [program, *old[old.index("live") if "live" in old else 1 :]]
+        self.is_tried = False
+
+    def tell(self, text):
+        """Tells the operator what came of it, and on standard error."""
+        say(text)
+        self.operator.tell(text)
+
+
+class Again:
+    """The controller of a bridge, which may end and be started again."""
+
+    def __init__(self, bridge, command, most):
+        """`most` is how many times it is started again in a minute."""
+        self.bridge, self.relay, self.times = bridge, bridge.relay, bridge.times
+        self.command, self.most = command, most
+        self.journal = Journal.of(command)
+        self.ended_at, self.count = [], 0
+        self.upgrading = None
+        # whether the book is one that the bridge hasn't seen yet; and whether a controller has gone on over its journal
+        self.is_new, self.has_gone_on = True, False
+        # whether the bridge ends since none can go on
+        self.has_failed = False
+
+    def start(self):
+        """Starts it. Where it has a journal, nothing is given to it before it says that it goes on."""
+        is_resuming = bool(self.journal and self.journal.files())
+        if not self.is_new and not is_resuming and self.relay.line:
+            self.fail(f"{self.journal.folder}: the journal is gone")
+            return
+        self.relay.is_away = is_resuming
+        self.bridge.start_core(self.command)
+        if is_resuming:
+            self.times.set("resume", LONGEST, self.is_too_slow)
+        elif not self.is_new:
+            self.give_again()
+        self.is_new = self.is_new and is_resuming
+
+    def is_too_slow(self):
+        """It doesn't go on, or doesn't end, in time."""
+        say(f"the controller isn't ready in {LONGEST:g} seconds, and is killed")
+        self.bridge.kill_core()
+
+    def hears(self, line):
+        """Whether a line on standard error is that it goes on; it does then."""
+        found = RESUMED.fullmatch(line)
+        if not found or not self.times.is_set("resume"):
+            return False
+        say(f"controller: {shown(line)}")
+        self.times.forget("resume")
+        self.has_gone_on = True
+        try:
+            self.resume(int(found[1]))
+        except (JournalError, OSError) as error:
+            self.fail(str(error))
+        return True
+
+    def resume(self, last):
+        """It goes on behind a line."""
+        if self.is_new:
+            self.settle(last)
+        else:
+            self.catch_up(last)
+        if (heard := self.relay.line) != last:
+            raise JournalError(f"{self.journal.folder}: the journal ends behind line {last}, but line {heard} was heard")
+        self.give_again()
+
+    def catch_up(self, last):
+        """Hears what wasn't heard yet up to a line."""
+        relay = self.relay
+        for number, lines in self.journal.lines_behind(relay.line - (relay.heard is not None), last):
+            if number > relay.line + 1:
+                raise JournalError(f"{self.journal.folder}: line {relay.line + 1}, which wasn't heard, isn't there any more")
+            if number > relay.line and not lines:
+                relay.pass_line()
+            for line in lines[relay.heard if number == relay.line else 0 :]:
+                relay.hear(line)
+
+    def give_again(self):
+        """Gives it what it hasn't done yet."""
+        relay = self.relay
+        if self.upgrading:
+            self.upgrading.tell(f"{self.upgrading.program}: goes on behind line {relay.line}")
+            self.upgrading = None
+        if relay.log:
+            relay.log.note("another controller goes on here, which gathers measurements anew")
+        relay.is_away, relay.held = False, 0
+        relay.core.send(b"".join(line + b"\n" for line, *_ in relay.given))
+        if self.bridge.is_ending:
+            self.bridge.finish_core()
+
+    # Its end
+
+    def ended(self):
+        """It has ended, or prints nothing more. Where another goes on it is killed first; it may be a while until it is gone, as
+        where a disk is slow."""
+        self.times.forget("resume")
+        if not self.goes_on():
+            self.end("the controller has ended")
+            return
+        self.relay.is_away = True
+        self.bridge.kill_core()
+        self.look()
+
+    def look(self):
+        """Where it is gone, another is started."""
+        if (status := self.bridge.core.poll()) is None:
+            self.times.set("gone", SOON, self.look)
+            return
+        self.bridge.close_errors()
+        if self.bridge.is_killed:
+            self.end("the controller is killed")
+        elif self.upgrading:
+            self.go_elsewhere(f"it ended with status {status}")
+        elif status >= 0 and not (self.has_gone_on or self.relay.line):
+            # it can't begin
+            self.end("the controller has ended")
+        else:
+            self.go_on(status)
+
+    def go_on(self, status):
+        """It has ended by itself, and is started again, unless that was too often."""
+        now, told = time.monotonic(), f"the controller has ended with status {status} behind line {self.relay.line}"
+        self.ended_at = [*(it for it in self.ended_at if it > now - PERIOD), now]
+        if len(self.ended_at) > self.most:
+            say(told)
+            self.fail(f"the controller has ended {len(self.ended_at)} times in {PERIOD:g} seconds")
+        else:
+            say(f"{told}, and is started again")
+            self.count += 1
+            self.try_to_start()
+
+    def can_be_again(self):
+        """Whether a controller that ends by itself is started again."""
+        return self.most > 0 and self.journal is not None
+
+    def is_untimely(self):
+        """Whether it hasn't done all that it was given as the bridge ended, though nobody killed it for that."""
+        return self.can_be_again() and not self.relay.is_done and not self.bridge.is_killed
+
+    def goes_on(self):
+        """Whether its end isn't the bridge's."""
+        return self.upgrading is not None or self.can_be_again()
+
+    def try_to_start(self):
+        """Starts it, if that can be done."""
+        try:
+            self.start()
+        except OSError as error:
+            self.fail(f"the controller can't be started again: {error}")
+
+    def fail(self, why):
+        """No controller can go on: the bridge ends, and not well."""
+        self.has_failed = True
+        self.end(why)
+
+    def end(self, why):
+        """The bridge ends. Where the controller runs it ends too, and nothing that waits is given to it."""
+        self.relay.is_away = False
+        if not self.bridge.is_ending:
+            self.bridge.end(why)
+        elif self.relay.core:
+            self.bridge.finish_core()
+
+    # Another program
+
+    def upgrade(self, operator, program):
+        """The controller ends behind the lines that it has, and a program is started in its place."""
+        if why := self.objection(program):
+            operator.tell(f"refused: upgrade {program}: {why}")
+            return
+        self.upgrading = Upgrade(operator, program, self.command)
+        self.relay.is_away = True
+        self.relay.core.finish()
+        self.times.set("resume", LONGEST, self.is_too_slow)
+
+    def objection(self, program):
+        """Why a program can't be started in the controller's place; None where that can be tried."""
+        if not program or not shutil.which(program):
+            return "no program that can be run"
+        if not self.journal:
+            return "the controller has no journal"
+        if self.relay.is_away or self.relay.core is None or self.relay.core.is_last:
+            return "the controller isn't there just now"
+        return None
+
+    def go_elsewhere(self, why):
+        """The controller has ended for another, which is started; or that one has, and why: then the old one is, again."""
+        it = self.upgrading
+        if not it.is_tried:
+            it.is_tried, self.command = True, it.new
+            try:
+                self.start()
+                return
+            except OSError as error:
+                why = str(error)
+        self.upgrading, self.command = None, it.old
+        it.tell(f"refused: upgrade {it.program}: {why}, and the old one goes on")
+        self.try_to_start()
+
+    # A book of before
+
+    def settle(self, last):
+        """The controller has a book that another bridge had, whose links are gone: all of it ends. What stations were asked is
+        answered in their place, calls are cleared in the centre's."""
+        relay = self.relay
+        self.is_new = False
+        relay.line, relay.heard = last, None
+        for event in filter(None, (Event.of(line.decode()) for line in self.journal.book(last) if line.startswith(b"event "))):
+            relay.calls.follow(event)
+        channels, calls = relay.calls.channels, sorted(relay.calls.calls, key=int)
+        given, relay.given = list(relay.given), type(relay.given)()
+        for state, message, elements in ANSWERS:
+            for channel in sorted(it for it, used in channels.items() if used.state == state):
+                self.answer(channel, message, elements)
+        for number in calls:
+            relay.reserve(int(number))
+            relay.give(b"a %d %s" % (int(number), bssmap.clear_command(bssmap.Cause.EQUIPMENT_FAILURE).hex().encode()))
+        relay.given.extend(given)
+        if channels or calls:
+            say(f"calls of before are over: {len(calls)}, with {len(channels)} channels")
+
+    def answer(self, channel, message, elements):
+        """Answers in the place of a station."""
+        cell, trx, number = channel
+        self.relay.give_message(cell, trx, rsl.channel_message(message, number, elements))
+
+
+# What is given of a channel of before, by its state, in this order.
+ANSWERS = (
+    (PENDING, rsl.ACTIVATION_NACK, rsl.FAILURE),
+    (OFF, rsl.RELEASE_ACK, b""),
+    (ON, rsl.CONNECTION_FAILURE, rsl.FAILURE),
+)

@@ -1,0 +1,75 @@
+"""The journal of a controller (docs/JOURNAL.md), as far as the bridge reads it: what came of each line, which the controller
+noted before anything of that left. The controller has looked whether it is whole."""
+import pathlib
+import re
+
+# The first line of a file. That of a record: its number and how many octets its body has, of twenty digits each, and two
+# checksums; where both stand, and how long it is.
+FIRST_LINE = b"gofnild journal 1\n"
+RECORD, NUMBER, SIZE, HEAD = b"record ", slice(7, 27), slice(28, 48), 67
+# Files of a journal, by the number of the line behind which each begins.
+NAME = re.compile(r"(\d{20})\.journal")
+# The options of a controller that have a value behind them.
+VALUED = ("--pcap", "--history", "--journal", "--keep", "--heard", "--journal-lost")
+
+
+class JournalError(Exception):
+    """It isn't what the bridge can read."""
+
+
+class Journal:
+    """The journal in a folder."""
+
+    def __init__(self, folder):
+        self.folder = pathlib.Path(folder)
+
+    @classmethod
+    def of(cls, command):
+        """That of a controller's command; None where it has none."""
+        if "--journal" not in command[:-1]:
+            return None
+        return cls(command[command.index("--journal") + 1])
+
+    def files(self):
+        """Its files, the oldest first, each with the number of the line behind which it begins."""
+        try:
+            found = [(NAME.fullmatch(it.name), it) for it in self.folder.iterdir()]
+        except FileNotFoundError:
+            return []
+        return sorted((int(name[1]), path) for name, path in found if name)
+
+    def records(self, path, last):
+        """The records of a file up to the last line, head included: the number of each, and its body. What stands behind may be a
+        record that was cut."""
+        octets = path.read_bytes()
+        if not octets.startswith(FIRST_LINE):
+            raise JournalError(f"{path}: begins otherwise than a journal of version 1")
+        at = len(FIRST_LINE)
+        while at < len(octets):
+            head = octets[at : at + HEAD]
+            digits = head[NUMBER] + head[SIZE]
+            if not (head.startswith(RECORD) and head.endswith(b"\n") and len(digits) == 40 and digits.isdigit()):
+                raise JournalError(f"{path}: no record at octet {at}")
+            number, begin = int(head[NUMBER]), at + HEAD
+            at = begin + int(head[SIZE])
+            if at > len(octets):
+                raise JournalError(f"{path}: no whole record at octet {at}")
+            yield number, octets[begin:at]
+            if number >= last:
+                return
+
+    def lines_behind(self, number, last):
+        """What came of the lines behind a line, up to the last one: the number of each, and the lines that it gave."""
+        files = self.files()
+        for place, (begin, path) in enumerate(files):
+            if place + 1 < len(files) and files[place + 1][0] <= number:
+                continue
+            for record, body in self.records(path, last):
+                if record > max(number, begin):
+                    yield record, body.split(b"\n")[:-1]
+
+    def book(self, last):
+        """The lines that lead from the empty book to that behind the last line."""
+        for _, path in self.files()[-1:]:
+            for _, body in self.records(path, last):
+                yield from body.split(b"\n")[:-1]

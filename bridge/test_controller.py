@@ -1,0 +1,153 @@
+#!/usr/bin/env python3
+"""A controller for tests that has a journal (docs/JOURNAL.md), around one that has none.
+
+    bridge/test_controller.py PROGRAM live SITE --journal FOLDER
+
+PROGRAM is a build of bsc_lab. Each line is given to `PROGRAM live SITE`, and what came of it is noted in FOLDER before it
+is printed; so are the lines themselves, by which a new PROGRAM gets the book that the last one had. FOLDER/plan says, a
+line each, where the controller is killed: `N STAGE`, at line N: `given` (it isn't noted yet), `cut` (half of it is), `noted`
+(nothing is printed), `torn` (half of its first line is), or how many of its lines are printed. What has happened is taken out
+of it. While there is FOLDER/hold it doesn't begin, or go on.
+"""
+import os
+import pathlib
+import re
+import signal
+import subprocess
+import sys
+import threading
+import time
+import zlib
+
+REASON = re.compile(rb"standard input:(\d+): (.*\n)")
+
+
+def record(number, lines):
+    """A record of a journal."""
+    body = b"".join(lines)
+    head = b"record %020d %020d" % (number, len(body))
+    head += b" %08x" % zlib.crc32(body)
+    return head + b" %08x\n" % zlib.crc32(head + b" ") + body
+
+
+class Live:
+    """A controller without a journal: each line is followed by one that it can't read, so that its answer has an end."""
+
+    def __init__(self, program, site):
+        pipe = subprocess.PIPE
+        self.process = subprocess.Popen([program, "live", site], stdin=pipe, stdout=pipe, stderr=pipe)
+        self.count = 0
+        # up to which line reasons were told already
+        self.told = 0
+        threading.Thread(target=self.tell_reasons, daemon=True).start()
+
+    def answer(self, line):
+        """Gives it a line; the lines that come of it."""
+        self.count += 1
+        self.process.stdin.write(line + b"\n?\n")
+        self.process.stdin.flush()
+        end, lines = b"line %d\n" % (2 * self.count), []
+        while (answer := self.process.stdout.readline()) != end:
+            if not answer:
+                sys.exit(f"the program ended at line {self.count}")
+            lines.append(b"line %d\n" % self.count if answer.startswith(b"line ") else answer)
+        return lines
+
+    def tell_reasons(self):
+        """Tells why lines can't be read, under their own numbers."""
+        for line in self.process.stderr:
+            found = REASON.fullmatch(line)
+            if found and int(found[1]) % 2 and int(found[1]) // 2 >= self.told:
+                os.write(2, b"standard input:%d: %s" % (int(found[1]) // 2 + 1, found[2]))
+
+    def end(self):
+        """Ends it; the lines of its end."""
+        self.process.stdin.close()
+        return self.process.stdout.read()
+
+
+class Controller:
+    """The controller with its journal."""
+
+    def __init__(self, program, site, folder):
+        self.folder = folder
+        folder.mkdir(exist_ok=True)
+        files = sorted(folder.glob("*.journal"))
+        self.lines, self.journal = folder / "lines", files[-1] if files else folder / f"{0:020}.journal"
+        # how long the journal is without a record that was cut
+        self.whole = folder / "whole"
+        self.live = Live(program, site)
+        is_resuming = bool(files)
+        if not is_resuming:
+            self.journal.write_bytes(b"gofnild journal 1\n" + record(0, [b"site 0\n"]))
+        known = self.lines.read_bytes().split(b"\n")[:-1] if self.lines.exists() else []
+        self.live.told = len(known)
+        for line in known:
+            self.live.answer(line)
+        self.wait()
+        if is_resuming:
+            os.write(2, b"resumed after line %d: channels=? calls=?\n" % self.live.count)
+
+    def wait(self):
+        """Takes its time, where that is asked for."""
+        while (self.folder / "hold").exists():
+            time.sleep(0.05)
+
+    def stages(self, number):
+        """The first of the stages at which it is to be killed, if that is of this line."""
+        plan = self.folder / "plan"
+        words = plan.read_text().split("\n")[0].split() if plan.exists() else []
+        return words[1] if words and int(words[0]) == number else None
+
+    def kill(self):
+        """Is killed, which isn't planned any more."""
+        plan = self.folder / "plan"
+        plan.write_text("".join(plan.read_text().splitlines(keepends=True)[1:]))
+        os.kill(os.getpid(), signal.SIGKILL)
+
+    def note(self, octets):
+        """Adds to the journal."""
+        with self.journal.open("ab") as journal:
+            journal.write(octets)
+
+    def take(self, line):
+        """Takes a line."""
+        stage = self.stages(self.live.count + 1)
+        if stage == "given":
+            self.kill()
+        answer = self.live.answer(line)
+        noted = record(self.live.count, [it for it in answer if not it.startswith(b"summary ")])
+        if stage == "cut":
+            self.whole.write_text(str(self.journal.stat().st_size))
+            self.note(noted[: len(noted) // 2])
+            self.kill()
+        if self.whole.exists():
+            os.truncate(self.journal, int(self.whole.read_text()))
+            self.whole.unlink()
+        with self.lines.open("ab") as lines:
+            lines.write(line + b"\n")
+        self.note(noted)
+        if stage == "noted":
+            self.kill()
+        if stage == "torn":
+            os.write(1, answer[0][:5])
+            self.kill()
+        count = len(answer) if stage is None else int(stage)
+        os.write(1, b"".join(answer[:count]))
+        if stage is not None:
+            self.kill()
+
+
+def main():
+    program, _live, *words = sys.argv[1:]
+    at = words.index("--journal")
+    _, folder = words[at : at + 2]
+    (site,) = words[:at] + words[at + 2 :]
+    controller = Controller(program, site, pathlib.Path(folder))
+    for line in sys.stdin.buffer:
+        controller.take(line.rstrip(b"\n"))
+    os.write(1, controller.live.end())
+
+
+if __name__ == "__main__":
+    main()
