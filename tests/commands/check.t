@@ -2,8 +2,8 @@ The cells of a site, and warnings of what is surely meant otherwise.
 
   $ sed 's/ *#.*//; /^$/d' examples/two_cells.toml >site.toml
   $ ./lab check site.toml
-  cell 0 lac=23 ci=100 bcch=60 bsic=1/1 power=5 channels 0/0/2 0/0/3 neighbours 1 64
-  cell 1 lac=23 ci=101 bcch=871 bsic=2/5 power=5 channels 1/1/3 neighbours 0
+  cell 0 lac=23 ci=100 bcch=60 bsic=1/1 power=5 channels 0/0/2 0/0/3 neighbours 1:2/21 64:0/24
+  cell 1 lac=23 ci=101 bcch=871 bsic=2/5 power=5 channels 1/1/3 neighbours 0:0/9
   outside 64 lac=23 ci=102 bcch=62 bsic=3/0
   warning: cell 0: ba: no other cell has the carrier 70
 

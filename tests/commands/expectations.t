@@ -62,6 +62,25 @@ left out.
   # line 5
   # expected: out abis 0 0 DATA REQUEST tn=3; HANDOVER COMMAND tn=3 carrier=871
 
+A field stands in a message once, so an expectation that has it twice isn't met; of a report `n` may stand as often as there.
+
+  $ printf 'open 1 0 0 3\n#> event open 1 0/0/3 -> done\n#> out abis 0 0 CHANNEL ACTIVATION tn=3 tn=3\n' >twice.txt
+  $ ./lab test examples/two_cells.toml twice.txt
+  1..1
+  not ok 1 - twice.txt
+  # line 3
+  # expected: out abis 0 0 CHANNEL ACTIVATION tn=3 tn=3
+  # came: out abis 0 0 CHANNEL ACTIVATION tn=3 activation=0 mode=00010801 reference=-
+  [1]
+  $ report='MEASUREMENT REPORT ba=0 dtx=0 full=30 ba3g=0 valid=1 sub=30 si23=0 qfull=0 qsub=0 count=2 n=20/1/21 n=20/1/21'
+  $ octets=$(./lab encode rr "$report")
+  $ printf "open 1 0 0 3\nabis 0 0 MEASUREMENT RESULT tn=3 number=0 uplink=- power=0 layer3=$octets\n" | sed 's/uplink=-/uplink=/' >report.txt
+  $ sed '$a #> in abis 0 0 MEASUREMENT RESULT; MEASUREMENT REPORT n=20/1/21 n=20/1/21\n#> ..' report.txt >two.txt
+  $ sed '$a #> in abis 0 0 MEASUREMENT RESULT; MEASUREMENT REPORT n=20/1/21 n=20/1/21 n=20/1/21\n#> ..' report.txt >three.txt
+  $ ./lab test examples/two_cells.toml two.txt three.txt | grep ok
+  ok 1 - two.txt
+  not ok 2 - three.txt
+
 Other lines have no words: of them all has to be said.
 
   $ printf 'open 1 0 0 3\n#> ..\n#> end channels=1\n' >script.txt
@@ -99,6 +118,47 @@ No line begins so.
   1..1
   ok 1 - met.txt
 
+Nor is one so in words, as `#>` takes them: with other fields between, in another order, with the message inside.
+
+  $ cat >script.txt <<'END'
+  > sim
+  > open 1 0 0 3
+  > #! out abis 0 0 CHANNEL ACTIVATION mode=00010801 tn=3
+  > #! out abis 0 0 CHANNEL ACTIVATION tn=2
+  > #! out abis 0 0 CHANNEL reference=-
+  > handover 1 1
+  > #! out abis 0 0 DATA REQUEST; HANDOVER COMMAND carrier=875
+  > #! out abis 0 0 DATA REQUEST; HANDOVER COMMAND carrier=871
+  > #! in abis 1 1 DATA INDICATION; HANDOVER FAILURE
+  > END
+  $ ./lab test examples/two_cells.toml script.txt
+  1..1
+  not ok 1 - script.txt
+  # line 3
+  # expected none that begins with: out abis 0 0 CHANNEL ACTIVATION mode=00010801 tn=3
+  # came: out abis 0 0 0821010b0300060400010801
+  # line 7
+  # expected none that begins with: out abis 0 0 DATA REQUEST; HANDOVER COMMAND carrier=875
+  # came: out abis 0 0 0301010b02000b0009062bd5670ba36b0005
+  [1]
+
+It is of all that comes up to the next line: what simulators answer, and at the end of the script the trace's end.
+
+  $ printf 'sim\nopen 1 0 0 3\n#! event confirm\n#! end\nclear 1\n#! end channels=0\n#! in abis 0 0 RF CHANNEL RELEASE ACK\n' >script.txt
+  $ ./lab test examples/two_cells.toml script.txt
+  1..1
+  not ok 1 - script.txt
+  # line 3
+  # expected none that begins with: event confirm
+  # came: event confirm 0/0/3 -> owned 1
+  # line 6
+  # expected none that begins with: end channels=0
+  # came: end channels=0 calls=0 references=0 timers=0
+  # line 7
+  # expected none that begins with: in abis 0 0 RF CHANNEL RELEASE ACK
+  # came: in abis 0 0 0833010b
+  [1]
+
 What the books hold behind a line: timeslots, channels, a call, how many calls and references.
 
   $ cat >script.txt <<'END'
@@ -128,6 +188,55 @@ What the books hold behind a line: timeslots, channels, a call, how many calls a
   $ ./lab test examples/two_cells.toml script.txt
   1..1
   ok 1 - script.txt
+
+A TRX that the site lacks has no timeslots; a number is written as it is in the trace. What asks for nothing isn't met,
+whatever stars stand there; nor are channels that stand twice.
+
+  $ cat >none.txt <<'END'
+  > open 1 0 0 3
+  > open 2 0 0 2
+  > #= trx 9/9 - - - - - - - -
+  > #= trx 0/1 * * * * * * * *
+  > #= trx 00/0 - - - - - - - -
+  > #= * * *
+  > #= no such expectation
+  > #= 1: calls 2
+  > #= 2: calls 0
+  > #= channels 0/0/2 0/0/2 0/0/3
+  > #= channels 0/0/2 0/0/2
+  > #= trx 1/1 - - - - - - - -
+  > END
+  $ ./lab test examples/two_cells.toml none.txt
+  1..1
+  not ok 1 - none.txt
+  # line 3
+  # expected: trx 9/9 - - - - - - - -
+  # came: no trx 9/9
+  # line 4
+  # expected: trx 0/1 * * * * * * * *
+  # came: no trx 0/1
+  # line 5
+  # expected: trx 00/0 - - - - - - - -
+  # came: no trx 00/0
+  # line 6
+  # expected: * * *
+  # came: no such expectation
+  # line 7
+  # expected: no such expectation
+  # came: no such expectation
+  # line 8
+  # expected: 1: calls 2
+  # came: no such controller: one alone has no mark
+  # line 9
+  # expected: 2: calls 0
+  # came: no such controller: one alone has no mark
+  # line 10
+  # expected: channels 0/0/2 0/0/2 0/0/3
+  # came: channels 0/0/2 0/0/3
+  # line 11
+  # expected: channels 0/0/2 0/0/2
+  # came: channels 0/0/2 0/0/3
+  [1]
 
 All that differs is shown, each once.
 
@@ -225,6 +334,38 @@ Two controllers: a mark stands in front, as in the trace.
   # came: 1: channels 0/0/3
   [1]
 
+Without a mark `#=` says nothing of two controllers, and isn't met; `#!` is of any of them.
+
+  $ cat >unmarked.txt <<'END'
+  > open 1 0 0 3
+  > #! out abis 0 0 CHANNEL ACTIVATION
+  > #! out abis 0 0 CHANNEL ACTIVATION reference=-
+  > #! 2: out abis
+  > #= calls 1
+  > #= * * * * * * * *
+  > #= 2: trx 0/1 - - - - - - - -
+  > #= 2: trx 0/0 - - - - - - - -
+  > END
+  $ ./lab test examples/two_cells.toml unmarked.txt --peer examples/one_cell.toml
+  1..1
+  not ok 1 - unmarked.txt
+  # line 2
+  # expected none that begins with: out abis 0 0 CHANNEL ACTIVATION
+  # came: 1: out abis 0 0 0821010b0300060400010801
+  # line 3
+  # expected none that begins with: out abis 0 0 CHANNEL ACTIVATION reference=-
+  # came: 1: out abis 0 0 0821010b0300060400010801
+  # line 5
+  # expected: calls 1
+  # came: no mark: 1: or 2: stands before it
+  # line 6
+  # expected: * * * * * * * *
+  # came: no such expectation
+  # line 7
+  # expected: 2: trx 0/1 - - - - - - - -
+  # came: 2: no trx 0/1
+  [1]
+
 A script that expects nothing isn't met, nor is one whose comments have slipped: that is told on standard error.
 
   $ printf 'open 1 0 0 3\nclear 1\n' >script.txt
@@ -248,6 +389,19 @@ A script that expects nothing isn't met, nor is one whose comments have slipped:
   $ ./lab test examples/two_cells.toml script.txt 2>&1 >/dev/null
   script.txt:2: an expectation but for a blank? "#> ", "#! " and "#= " begin one
   [1]
+
+So is what looks as if it named a site.
+
+  $ printf '#%% Site town.toml\n#%%site town.toml\n#%%  peer p.toml\n#%% site\n#%% town.toml\n#%%%%%%%%\n#%% %%\nopen 1 0 0 3\n#= calls 1\n' >script.txt
+  $ ./lab test examples/two_cells.toml script.txt 2>errors
+  1..1
+  ok 1 - script.txt
+  $ cat errors
+  script.txt:1: names nothing: "#% site PATH" and "#% peer PATH" name sites
+  script.txt:2: names nothing: "#% site PATH" and "#% peer PATH" name sites
+  script.txt:3: names nothing: "#% site PATH" and "#% peer PATH" name sites
+  script.txt:4: names nothing: "#% site PATH" and "#% peer PATH" name sites
+  script.txt:5: names nothing: "#% site PATH" and "#% peer PATH" name sites
 
 A carriage return that ends no line is told.
 
@@ -291,6 +445,25 @@ A script may name its own site, and its peer's, from its own folder on.
   [2]
   $ cat errors
   town/none.toml: no such file
+  $ printf '#%% site town.toml\n# Twice.\n#%% site town.toml\nopen 1 0 0 3\n#= calls 1\n' >town/twice.txt
+  $ printf '#%% peer peer.toml\n#%% peer own.toml\n#= 1: calls 0\n' >town/peers.txt
+  $ ./lab test examples/two_cells.toml town/twice.txt town/peers.txt script.txt 2>errors
+  1..3
+  not ok 1 - town/twice.txt
+  # line 3 can't be read
+  not ok 2 - town/peers.txt
+  # line 2 can't be read
+  ok 3 - script.txt
+  [2]
+  $ cat errors
+  town/twice.txt:3: line 1 has named one: a script names one site, and one peer
+  town/peers.txt:2: line 1 has named one: a script names one site, and one peer
+  $ ./lab test examples/two_cells.toml town/twice.txt --undo-everywhere 2>/dev/null
+  not ok 1 - town/twice.txt
+  # line 3 can't be read
+  1..1
+  # same 0, held 0, not settled 0, differ 0
+  [2]
   $ ./lab test examples/two_cells.toml town/half.txt --undo-everywhere 2>/dev/null
   1..0
   # same 0, held 0, not settled 0, differ 0

@@ -32,6 +32,21 @@ A number that has no words is refused in one line on standard error, and so is o
   $ ./lab rewind a b 0 2>&1 >>printed
   *LINE is a number from 1 on (glob)
   [2]
+  $ ./lab run a b --call x 2>&1 >>printed
+  *string; N is a number from 0 to 65535 (glob)
+  [2]
+  $ ./lab run a b --call 65536 2>&1 >>printed
+  *N is a number from 0 to 65535 (glob)
+  [2]
+  $ ./lab live a --history x 2>&1 >>printed
+  *string; N is a number from 1 on (glob)
+  [2]
+  $ ./lab live a --journal b --keep 0 2>&1 >>printed
+  *N is a number from 1 on (glob)
+  [2]
+  $ ./lab live a --journal b --heard x 2>&1 >>printed
+  *string; M is a number from 0 on (glob)
+  [2]
   $ ./lab explain fault rr 5 2>&1 >>printed
   *no fault rr 5* (glob)
   [2]

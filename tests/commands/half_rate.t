@@ -1,8 +1,8 @@
 Channels at half rate, by each command and view: a half of a timeslot has /0 or /1 behind it.
 
   $ ./lab check examples/half_rate.toml
-  cell 0 lac=23 ci=100 bcch=60 bsic=1/1 power=5 channels 0/0/2 0/0/3 0/0/3/0 0/0/3/1 neighbours 1
-  cell 1 lac=23 ci=101 bcch=871 bsic=2/5 power=5 channels 1/1/3 1/1/3/0 1/1/3/1 neighbours 0
+  cell 0 lac=23 ci=100 bcch=60 bsic=1/1 power=5 channels 0/0/2 0/0/3 0/0/3/0 0/0/3/1 neighbours 1:0/21
+  cell 1 lac=23 ci=101 bcch=871 bsic=2/5 power=5 channels 1/1/3 1/1/3/0 1/1/3/1 neighbours 0:0/9
 
 A run, in words and with what its book holds:
 
@@ -366,13 +366,13 @@ What a site file may not say of halves, and what is passed over:
   bad.toml:29:73: duplicate key
   $ sed 's/tch = .3., half = .3./tch = [3], half = []/' examples/half_rate.toml >bad.toml
   $ ./lab check bad.toml 2>errors
-  cell 0 lac=23 ci=100 bcch=60 bsic=1/1 power=5 channels 0/0/2 0/0/3 0/0/3/0 0/0/3/1 neighbours 1
-  cell 1 lac=23 ci=101 bcch=871 bsic=2/5 power=5 channels 1/1/3 neighbours 0
+  cell 0 lac=23 ci=100 bcch=60 bsic=1/1 power=5 channels 0/0/2 0/0/3 0/0/3/0 0/0/3/1 neighbours 1:0/21
+  cell 1 lac=23 ci=101 bcch=871 bsic=2/5 power=5 channels 1/1/3 neighbours 0:0/9
   $ cat errors
   $ sed 's/tch = .3., half = .3./tch = [3], halves = [3]/' examples/half_rate.toml >bad.toml
   $ ./lab check bad.toml 2>errors
-  cell 0 lac=23 ci=100 bcch=60 bsic=1/1 power=5 channels 0/0/2 0/0/3 0/0/3/0 0/0/3/1 neighbours 1
-  cell 1 lac=23 ci=101 bcch=871 bsic=2/5 power=5 channels 1/1/3 neighbours 0
+  cell 0 lac=23 ci=100 bcch=60 bsic=1/1 power=5 channels 0/0/2 0/0/3 0/0/3/0 0/0/3/1 neighbours 1:0/21
+  cell 1 lac=23 ci=101 bcch=871 bsic=2/5 power=5 channels 1/1/3 neighbours 0:0/9
   warning: cell 1, trx 1: unknown key "halves" is ignored
   $ cat errors
 

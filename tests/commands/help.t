@@ -17,6 +17,7 @@ What commands are for, and what their words are. No line has more than 100 colum
   $ grep -qF -- 'The site file of a second controller' help
   $ grep -qF -- --words help
   $ grep -qF -- --state help
+  $ grep -qF -- --decisions help
   $ grep -qF -- '--pcap <FILE>' help
   $ grep -qF -- '--chart <FILE>' help
   $ grep -qF -- --audit help
@@ -42,6 +43,14 @@ behind one that is none, and the words of a line behind its first word alone. A 
   $ while read -r form; do grep -q "^  $form " help || echo "$form is missing"; done <forms
   $ grep -qF -- 'Statuses: 0 ' help
   $ grep -qF -- 'As in: bsc_lab run ' help
+
+  $ ./lab live --help >help
+  $ awk 'length > 100' help
+  $ grep -qF -- '--history <N>' help
+  $ grep -qF -- '--journal <FOLDER>' help
+  $ grep -qF -- '--journal-lost <WHAT>' help
+  $ grep -qF -- 'possible values: end, go-on' help
+  $ grep -qF -- 'Statuses: 0 ' help
 
   $ ./lab decode --help >help
   $ awk 'length > 100' help
@@ -160,3 +169,14 @@ behind one that is none, and the words of a line behind its first word alone. A 
   $ ./lab -V >help
   $ awk 'length > 100' help
   $ grep -qF -- 'bsc_lab 0.' help
+
+  $ ./lab rewind --help >help
+  $ awk 'length > 100' help
+  $ grep -qF -- 'for lines of the trace with 2:' help
+  $ grep -cF -- 'of the script' help
+  0
+  [1]
+
+  $ ./lab test --help | tr '\n' ' ' >help
+  $ grep -qF -- '#% peer PATH' help
+  $ grep -qF -- "1 one doesn't, expects nothing, or has a line that comes to nothing" help

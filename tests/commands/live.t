@@ -71,6 +71,11 @@ wasn't said, one that isn't UTF-8, one that is too long. One octet less is read.
   standard input:7: a byte order mark stands before the first word
   standard input:8: nothing stands behind sim, found a blank
 
+What may stand in a line is named, the line summary too.
+
+  $ printf 'summary extra\n' | ./lab live examples/two_cells.toml 2>&1 >/dev/null | sed 's/ open, .* with #/ .. with #/'
+  standard input:1: a line begins with .. with #, or is summary, found summary
+
 Behind sim the lines that need it are read, and the others are as before.
 
   $ printf 'sim\nhold 0 0 3\nopen 1 0 0 3\nmobile 0 0 9 vanish\n2: sim\nsim\nlet 0 0 3\n# nothing\n' >lines.txt
@@ -211,4 +216,4 @@ A capture that can't be written any more ends alone: lines are taken to their en
 There is no second controller, so none is named by what may begin a line.
 
   $ echo frob | ./lab live examples/two_cells.toml 2>&1 >/dev/null
-  standard input:1: a line begins with [a-z, ]+, or with #, found frob (re)
+  standard input:1: a line begins with [a-z, ]+, or with #, or is summary, found frob (re)

@@ -2,6 +2,7 @@ A script is recorded: each line ends as it did, and comments that expected somet
 
   $ printf '# A call.\r\nopen 1 0 0 3\r\n#> old\r\n\r\n# Its station answers.\nabis 0 0 0822010b081234' >script.txt
   $ ./lab record examples/two_cells.toml script.txt
+  script.txt: the last line has no line feed: it may be cut
   # A call.\r (esc)
   open 1 0 0 3\r (esc)
   #> in open 1 0 0 3\r (esc)
@@ -18,6 +19,7 @@ A script is recorded: each line ends as it did, and comments that expected somet
 The record of a record is the same.
 
   $ ./lab record examples/two_cells.toml script.txt >recorded.txt
+  script.txt: the last line has no line feed: it may be cut
   $ ./lab record examples/two_cells.toml recorded.txt
   # A call.\r (esc)
   open 1 0 0 3\r (esc)
@@ -50,10 +52,12 @@ How a last line ends stays as it is, but that comments which follow begin a line
   #> end channels=0 calls=0 references=0 timers=0
   $ printf '# note' >script.txt
   $ ./lab record examples/two_cells.toml script.txt
+  script.txt: the last line has no line feed: it may be cut
   #> end channels=0 calls=0 references=0 timers=0
   # note (no-eol)
   $ printf '# note\r\n\t' >script.txt
   $ ./lab record examples/two_cells.toml script.txt
+  script.txt: the last line has no line feed: it may be cut
   #> end channels=0 calls=0 references=0 timers=0
   # note\r (esc)
   \t (no-eol) (esc)
@@ -64,19 +68,23 @@ How a last line ends stays as it is, but that comments which follow begin a line
   
   $ printf 'sim' >script.txt
   $ ./lab record examples/two_cells.toml script.txt
+  script.txt: the last line has no line feed: it may be cut
   sim
   #> end channels=0 calls=0 references=0 timers=0
   $ printf 'sim\r' >script.txt
   $ ./lab record examples/two_cells.toml script.txt
+  script.txt: the last line has no line feed: it may be cut
   sim\r (esc)
   #> end channels=0 calls=0 references=0 timers=0\r (esc)
   $ printf 'sim\n# note\r' >script.txt
   $ ./lab record examples/two_cells.toml script.txt
+  script.txt: the last line has no line feed: it may be cut
   sim
   #> end channels=0 calls=0 references=0 timers=0
   # note\r (no-eol) (esc)
   $ printf 'sim\n# note\n#> old' >script.txt
   $ ./lab record examples/two_cells.toml script.txt
+  script.txt: the last line has no line feed: it may be cut
   sim
   #> end channels=0 calls=0 references=0 timers=0
   # note
@@ -105,6 +113,7 @@ it that expects something is needed: with another, the test names that line.
   ok 1 - recorded.txt
   $ printf 'sim' >script.txt
   $ is_recorded
+  script.txt: the last line has no line feed: it may be cut
   1..1
   ok 1 - recorded.txt
   $ cat >script.txt <<'END'
@@ -122,6 +131,7 @@ it that expects something is needed: with another, the test names that line.
   ok 1 - recorded.txt
   $ printf 'open 1 0 0 3\n#> old\n# kept\n#> ..\nabis 0 0 0822010b081234\nabis 0 0 ff' >script.txt
   $ is_recorded
+  script.txt: the last line has no line feed: it may be cut
   1..1
   ok 1 - recorded.txt
   $ cat >script.txt <<'END'
@@ -146,3 +156,14 @@ it that expects something is needed: with another, the test names that line.
   $ is_recorded --peer examples/one_cell.toml
   1..1
   ok 1 - recorded.txt
+
+What run says of a script is said of it, too: lines that come to nothing, and a last line that may be cut.
+
+  $ printf 'sim\nrefuse 0 0 5\nopen 1 0 0 3\nrefuse 0 0 3\nanswer 2 ack' >script.txt
+  $ ./lab record examples/two_cells.toml script.txt 2>&1 >/dev/null
+  script.txt: the last line has no line feed: it may be cut
+  script.txt:2: the site has no channel 0/0/5
+  script.txt:4: never used: nothing comes of it on 0/0/3
+  script.txt:5: nothing comes of it: there is no call 2
+  $ ./lab run examples/two_cells.toml script.txt 2>said >/dev/null
+  $ ./lab record examples/two_cells.toml script.txt 2>&1 >/dev/null | cmp - said

@@ -119,19 +119,19 @@ Nothing runs before all lines are read. The first script's name has a tab, which
   line 1
   [2]
   $ cat errors
-  unread.txt:1: TRX is 0 to 255, found arrive
+  unread.txt:1: mobile CALL HABIT needs a line sim before it
   $ ./lab record examples/two_cells.toml unread.txt 2>errors
   line 1
   [2]
   $ cat errors
-  unread.txt:1: TRX is 0 to 255, found arrive
+  unread.txt:1: mobile CALL HABIT needs a line sim before it
   $ ./lab test examples/two_cells.toml unread.txt 2>errors
   1..1
   not ok 1 - unread.txt
   # line 1 can't be read
   [2]
   $ cat errors
-  unread.txt:1: TRX is 0 to 255, found arrive
+  unread.txt:1: mobile CALL HABIT needs a line sim before it
   $ printf 'mobile 0 0 3 arrive\n' >unread.txt
   $ ./lab run examples/two_cells.toml unread.txt 2>errors
   line 1

@@ -129,6 +129,18 @@ What was refused isn't counted: a channel that isn't free, a call that isn't the
   summary cell 0         1 calls opened
   summary cell 0         1 out CHANNEL ACTIVATION
 
+A mobile has returned where it says HANDOVER FAILURE, and not by what else it says.
+
+  $ for said in 062800 062c00; do
+  >   echo "in abis 0 0 0302010b02000b0003$said"
+  >   echo 'event undo 1 asked -> record 0/0/3 on internal commanded 1/1/3 0'
+  > done >said.trace
+  $ ./lab summary said.trace | grep '^summary all.*\(undone\|DATA\)' | grep -v ' 0 '
+  summary all            1 undone: mobile returned
+  summary all            1 undone: cause not told
+  summary all            1 in DATA INDICATION: HANDOVER FAILURE
+  summary all            1 in DATA INDICATION: HANDOVER COMPLETE
+
 T7 and T8 are timers, too, and what another timer ends isn't counted.
 
   $ printf 'open 1 0 0 3\nabis 0 0 0822010b081234\nhandover 1 64\nexpire 1 T8\nexpire 1 T7\n' >timers.txt

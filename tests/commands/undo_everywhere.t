@@ -85,12 +85,25 @@ Comments of what is expected are passed over, and a script that can't be read is
   site 2 handover
   [2]
 
+Nobody comes between the reports that one line gives at once: behind the second the attempt is open, and taken back behind the
+third.
+
+  $ printf 'sim\nopen 1 0 0 3\nreport 1 full=30 n=1:40 times=3\n' >reports.txt
+  $ ./lab run examples/two_cells.toml reports.txt | grep -c '^in'
+  9
+  $ ./lab test examples/two_cells.toml reports.txt --undo-everywhere
+  ok 1 - reports.txt: undo 1 behind input 5: same
+  ok 2 - reports.txt: undo 1 behind input 6: same
+  ok 3 - reports.txt: undo 1 behind input 7: same
+  1..3
+  # same 3, held 0, not settled 0, differ 0
+
 All scripts of the tests: none differs. Where no release is acknowledged by a script without simulators the attempt isn't
 settled.
 
   $ ./lab test tests/two_cells/site.toml $(find tests/two_cells -name '*.txt' | sort) --undo-everywhere | tail -2
-  1..267
-  # same 124, held 0, not settled 143, differ 0
+  1..294
+  # same 150, held 0, not settled 144, differ 0
   $ ./lab test tests/two_controllers/site.toml $(find tests/two_controllers -name '*.txt' | sort) --peer tests/two_controllers/peer.toml --undo-everywhere | tail -2
   1..95
   # same 95, held 0, not settled 0, differ 0

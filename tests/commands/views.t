@@ -240,9 +240,9 @@ Whose a line is: a message about a channel that no call has; a handover that fin
   in handover 1 1 # call 1
   event look 1 -> record 0/0/3 on # call 1
   none free 1 # call 1
-  in expire 1 T3103 # call 1
+  in expire 1 T3103 # call 1; ignored: nothing changes
   event undo 1 t3103 -> refused 9 # call 1; NotArmed: the timer isn't armed for the call
-  in undo 3 # call 3
+  in undo 3 # call 3; ignored: nothing changes
   event undo 3 asked -> refused 1 # call 3; NoCall: there is no such call
   end channels=2 calls=2 references=0 timers=0 # this is left
 

@@ -19,7 +19,9 @@ What is printed of a site: its cells, and what is surely meant otherwise. Channe
   cell 0 lac=1 ci=0 bcch=60 bsic=1/1 power=5 channels 0/1/5 0/1/3 0/2/6 0/2/2 neighbours -
   warning: cell 0 has no neighbours
 
-Cells that share a carrier, one on carrier 0, and lists with the cell's own carrier.
+Cells that share a carrier, one on carrier 0, and lists with the cell's own carrier. Behind a neighbour stand its position in
+the list, where carrier 0 is last, and its code, eight times ncc and bcc. Cell 2 has cell 1 as a neighbour, but not the
+other way round.
 
   $ cat >site.toml <<END
   > [handover]
@@ -73,13 +75,14 @@ Cells that share a carrier, one on carrier 0, and lists with the cell's own carr
   > bcc = 1
   > END
   $ ./lab check site.toml
-  cell 0 lac=1 ci=0 bcch=10 bsic=1/2 power=5 channels 0/0/1 neighbours 1 2 64 65
-  cell 1 lac=1 ci=1 bcch=20 bsic=0/0 power=5 channels 1/0/1 neighbours 0
-  cell 2 lac=1 ci=2 bcch=20 bsic=7/7 power=5 channels 2/0/1 neighbours 0 1
+  cell 0 lac=1 ci=0 bcch=10 bsic=1/2 power=5 channels 0/0/1 neighbours 1:1/0 2:1/63 64:3/28 65:2/1
+  cell 1 lac=1 ci=1 bcch=20 bsic=0/0 power=5 channels 1/0/1 neighbours 0:0/10
+  cell 2 lac=1 ci=2 bcch=20 bsic=7/7 power=5 channels 2/0/1 neighbours 0:0/10 1:1/0
   outside 64 lac=2 ci=0 bcch=0 bsic=3/4
   outside 65 lac=2 ci=1 bcch=30 bsic=0/1
   outside 66 lac=2 ci=2 bcch=40 bsic=0/1
   warning: cell 0: ba: no other cell has the carrier 10
+  warning: cell 1 is a neighbour of cell 2, but cell 2 is none of cell 1
 
 A site in which a text stands in the place of another, and what is warned of then.
 
@@ -123,14 +126,17 @@ A site in which a text stands in the place of another, and what is warned of the
   $ ./lab check other.toml | grep '^warning'
   warning: cell 0: ba: no other cell has the carrier 60
   warning: cell 0 has no neighbours
+  warning: cell 0 is a neighbour of cell 1, but cell 1 is none of cell 0
   $ sed -z 's/\[62, 70, 871\]/[0, 1023]/' site.toml >other.toml
   $ ./lab check other.toml | grep '^warning'
   warning: cell 0: ba: no other cell has the carrier 0
   warning: cell 0: ba: no other cell has the carrier 1023
   warning: cell 0 has no neighbours
+  warning: cell 0 is a neighbour of cell 1, but cell 1 is none of cell 0
   $ sed -z 's/ba = \[60\]/ba = []/' site.toml >other.toml
   $ ./lab check other.toml | grep '^warning'
   warning: cell 0: ba: no other cell has the carrier 70
+  warning: cell 1 is a neighbour of cell 0, but cell 0 is none of cell 1
   warning: cell 1 has no neighbours
   $ sed -z 's/\[handover\]\n/colour = 1\n[handover]\nwindows = 2\n/' site.toml >other.toml
   $ ./lab check other.toml | grep '^warning'

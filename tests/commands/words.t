@@ -11,7 +11,7 @@ missing, and says what is allowed. Nothing stands on standard output.
   *not provided: <SCRIPT>*bsc_lab run * (glob)
   [2]
   $ ./lab run a.toml b.txt c.txt 2>&1 >>printed
-  *'c.txt'*--peer, --words, --state, --pcap, --chart* (glob)
+  *'c.txt'*--peer, --words, --state, --decisions, --pcap, --chart* (glob)
   [2]
   $ ./lab runn a.toml b.txt 2>&1 >>printed
   *'runn'*run, live, test, record, rewind, audit, summary, storm, check, decode, encode, explain* (glob)
@@ -20,7 +20,7 @@ missing, and says what is allowed. Nothing stands on standard output.
   *'--verbose'*run, live, test, record, rewind, audit, summary, storm, check, decode, encode, explain* (glob)
   [2]
   $ ./lab run a b --quiet 2>&1 >>printed
-  *'--quiet'*--peer, --words, --state, --pcap, --chart* (glob)
+  *'--quiet'*--peer, --words, --state, --decisions, --pcap, --chart* (glob)
   [2]
   $ ./lab run a.toml b.txt --peer 2>&1 >>printed
   *'--peer <SITE>'* (glob)

@@ -1,0 +1,176 @@
+A controller with a journal notes what came of each line before anything of it leaves. What it prints is the same.
+
+  $ cat examples/handover_undone.trace | sed -n 's/^in //p' >lines
+  $ ./lab live examples/two_cells.toml <lines >plain
+  $ ./lab live examples/two_cells.toml --journal j <lines | cmp - plain
+  $ ls j
+  00000000000000000000.journal
+  lock
+
+A file is text: its first line, a head with the checksum of the site, and a record of each line, also of one that can't be read.
+
+  $ printf 'open 1 0 0 3\nfrob\n\n' | ./lab live examples/two_cells.toml --journal k 2>errors
+  in open 1 0 0 3
+  event open 1 0/0/3 -> done
+  out abis 0 0 0821010b0300060400010801
+  line 2
+  end channels=1 calls=1 references=0 timers=0
+  $ cat errors
+  standard input:2: * (glob)
+  $ sed 's/^\(record [0-9]* [0-9]*\) .*/\1/; s/^site .*/site/' k/*.journal
+  gofnild journal 1
+  record 00000000000000000000 00000000000000000016
+  site
+  record 00000000000000000001 00000000000000000081
+  in open 1 0 0 3
+  event open 1 0/0/3 -> done
+  out abis 0 0 0821010b0300060400010801
+  record 00000000000000000002 00000000000000000007
+  line 2
+  record 00000000000000000003 00000000000000000000
+
+The next controller goes on from there, and counts on. What was sent for the lines behind one that was heard is told once more.
+
+  $ printf 'abis 0 0 0822010b081234\nfrob\n' | ./lab live examples/two_cells.toml --journal k --heard 0 2>errors
+  1: out abis 0 0 0821010b0300060400010801
+  in abis 0 0 0822010b081234
+  event confirm 0/0/3 -> owned 1
+  event look 1 -> record 0/0/3 on
+  line 5
+  end channels=1 calls=1 references=0 timers=0
+  $ head -1 errors
+  resumed after line 3: channels=1 calls=1
+  $ ./lab live examples/two_cells.toml --journal k --heard 5 </dev/null
+  resumed after line 5: channels=1 calls=1
+  end channels=1 calls=1 references=0 timers=0
+  $ ./lab live examples/two_cells.toml --journal k --heard 6 </dev/null
+  k: no file has the line that was heard
+  [2]
+
+The line sim can't be read.
+
+  $ echo sim | ./lab live examples/two_cells.toml --journal l 2>said
+  line 1
+  end channels=0 calls=0 references=0 timers=0
+  $ cat said
+  standard input:1: simulators can't be attached to a controller with a journal
+
+A record that was cut at the end is dropped.
+
+  $ cp -r k m; truncate -s -3 m/*.journal
+  $ ./lab live examples/two_cells.toml --journal m </dev/null
+  m/00000000000000000000.journal: the record behind line 4 was cut, and is dropped
+  resumed after line 4: channels=1 calls=1
+  end channels=1 calls=1 references=0 timers=0
+  $ ./lab live examples/two_cells.toml --journal m </dev/null 2>&1 >/dev/null
+  resumed after line 4: channels=1 calls=1
+
+Refused are a damaged record, another site, another version, what is no journal, and a file under another name; and nothing is
+changed.
+
+  $ cp -r k n; sed -i 's/^in open 1 0 0 3/in open 1 0 0 2/' n/*.journal; cp -r n old
+  $ ./lab live examples/two_cells.toml --journal n </dev/null
+  n/00000000000000000000.journal: record 1 is damaged
+  [2]
+  $ diff -r n old
+  $ ./lab live examples/one_cell.toml --journal k </dev/null
+  k/00000000000000000000.journal: the journal is of another site
+  [2]
+  $ cp -r k o; sed -i '1s/1$/2/' o/*.journal
+  $ ./lab live examples/two_cells.toml --journal o </dev/null
+  o/00000000000000000000.journal: the file is a journal of a version that isn't known here
+  [2]
+  $ cp -r k p; echo frob >p/00000000000000000000.journal
+  $ ./lab live examples/two_cells.toml --journal p </dev/null
+  p/00000000000000000000.journal: the file is no journal
+  [2]
+
+  $ mkdir u; cp k/00000000000000000000.journal u/00000000000000000007.journal
+  $ ./lab live examples/two_cells.toml --journal u </dev/null
+  u/00000000000000000007.journal: the head of the journal has another number than the file's name
+  [2]
+
+Files that aren't the journal's are left alone.
+
+  $ touch k/notes.txt
+  $ ./lab live examples/two_cells.toml --journal k </dev/null 2>&1 >/dev/null
+  k/notes.txt: not of the journal, and left alone
+  resumed after line 5: channels=1 calls=1
+
+A journal is one controller's.
+
+  $ mkfifo in; ./lab live examples/two_cells.toml --journal k <in >/dev/null 2>said & exec 3>in
+  $ until grep -q resumed said; do sleep 0.1; done
+  $ ./lab live examples/two_cells.toml --journal k </dev/null
+  k: another controller has this journal
+  [2]
+  $ exec 3>&-; wait
+  $ touch file; ./lab live examples/two_cells.toml --journal file/j </dev/null
+  file/j: * (glob)
+  [2]
+
+With a short history files are begun, each with the events that lead to its book, and audit reads each as a trace.
+
+  $ ./lab live examples/two_cells.toml --journal q --history 3 <lines | cmp - plain
+  $ ls q
+  00000000000000000000.journal
+  00000000000000000002.journal
+  00000000000000000003.journal
+  lock
+  $ sed -n 's/^event //p' q/00000000000000000003.journal
+  open 1 0/0/3 -> done
+  confirm 0/0/3 -> owned 1
+  take 1 internal 1/1/3 -> done
+  reserve 1 0 -> done
+  activate 1 -> done
+  undo 1 asked -> record 0/0/3 on internal sent 1/1/3 0
+  released 1/1/3 -> done
+  $ for file in q/*.journal; do ./lab audit examples/two_cells.toml $file | sed -n '1p;$p'; done
+  attempts 0
+  same
+  attempts 0
+  same
+  attempts 1
+  same
+  $ ./lab live examples/two_cells.toml --journal q --heard 1 </dev/null 2>&1
+  resumed after line 5: channels=1 calls=1
+  3: out abis 1 1 0821010b03020604000108010900
+  4: out abis 1 1 082e010b
+  end channels=1 calls=1 references=0 timers=0
+  $ ./lab live examples/two_cells.toml --journal r --history 3 --keep 1 <lines | cmp - plain
+  $ ls r
+  00000000000000000003.journal
+  lock
+  $ ./lab live examples/two_cells.toml --journal r --heard 1 </dev/null
+  r: no file has the line that was heard
+  [2]
+  $ ./lab live examples/two_cells.toml --history 3 <lines | cmp - plain
+
+A damaged file is none of a trace; a record at the end that was cut is passed over.
+
+  $ ./lab audit examples/two_cells.toml n/*.journal
+  n/00000000000000000000.journal: octet 101: the record is damaged
+  file n/00000000000000000000.journal
+  [2]
+  $ cp -r q t; truncate -s -3 t/00000000000000000003.journal
+  $ ./lab audit examples/two_cells.toml t/00000000000000000003.journal
+  attempts 0
+  held -
+  choices -
+  same
+
+A file that can't be written ends the controller before anything of the line leaves, or it goes on, as is asked for.
+
+  $ for word in end go-on; do
+  >   for n in $(seq 40); do echo clear $n; done |
+  >     (ulimit -f 1; trap '' XFSZ; ./lab live examples/two_cells.toml --journal s-$word --journal-lost $word 2>&1; echo status $?) | cat >$word
+  > done
+  $ grep -v '^in \|^event ' end
+  s-end: File too large (os error 27); the controller ends
+  status 2
+  $ grep -v '^in \|^event ' go-on
+  s-go-on: File too large (os error 27); the journal ends, and the controller goes on
+  end channels=0 calls=0 references=0 timers=0
+  status 2
+  $ grep -c '^in ' go-on
+  40
