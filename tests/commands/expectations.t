@@ -468,6 +468,21 @@ A script may name its own site, and its peer's, from its own folder on.
   1..0
   # same 0, held 0, not settled 0, differ 0
 
+run and record go by the sites that they are given, and say where a script names another one.
+
+  $ ./lab run examples/two_cells.toml town/half.txt 2>&1 >/dev/null
+  town/half.txt:1: names the site town/town.toml, and is run over examples/two_cells.toml
+  $ ./lab record town/peer.toml town/both.txt --peer examples/two_cells.toml 2>&1 >/dev/null
+  town/both.txt:1: names the site town/own.toml, and is run over town/peer.toml
+  town/both.txt:2: names the peer town/peer.toml, and is run beside examples/two_cells.toml
+  $ ./lab record examples/two_cells.toml town/two.txt 2>&1 >/dev/null
+  town/two.txt:1: names the peer town/peer.toml, and is run without one
+  $ ./lab run examples/two_cells.toml town/none.txt --audit 2>&1 >/dev/null
+  town/none.txt:1: names the site town/none.toml, and is run over examples/two_cells.toml
+  $ ln -s town.toml town/link.toml
+  $ ./lab run town/link.toml town/half.txt 2>&1 >/dev/null
+  $ ./lab run town/./own.toml town/both.txt --peer town/peer.toml 2>&1 >/dev/null
+
 Records in words, and with what the books hold. An echo with nothing behind it, or with another input, stays.
 
   $ printf 'open 1 0 0 3\nabis 0 0 0822010b081234\n# A look.\n#! out a 1\n#= old\n' >script.txt

@@ -47,6 +47,25 @@ The next controller goes on from there, and counts on. What was sent for the lin
   k: no file has the line that was heard
   [2]
 
+It knows the calls of its book in words, and has all of it in states, also where the file begins with that book.
+
+  $ printf 'open 1 0 0 3\nabis 0 0 0822010b081234\nopen 2 0 0 2\nclear 2\n' >four
+  $ for entries in 100 1; do
+  >   ./lab live examples/two_cells.toml --journal w$entries --history $entries <four >/dev/null
+  >   echo abis 0 0 0833010b | ./lab live examples/two_cells.toml --journal w$entries --words --state >w$entries.trace 2>/dev/null
+  > done
+  $ cat w100.trace
+  in abis 0 0 0833010b # call 1; RF CHANNEL RELEASE ACK tn=3; ignored: this stage doesn't expect it
+  event released 0/0/3 -> refused 8 0/0/3 # call 1; Unexpected: this channel is in use for no call, or doesn't wait for this message of its station
+  state channel 0/0/2 off
+  state channel 0/0/3 on call 1
+  state call 1 record 0/0/3 on
+  end channels=2 calls=1 references=0 timers=0 # this is left
+  state channel 0/0/2 off
+  state channel 0/0/3 on call 1
+  state call 1 record 0/0/3 on
+  $ cmp w1.trace w100.trace
+
 The line sim can't be read.
 
   $ echo sim | ./lab live examples/two_cells.toml --journal l 2>said
@@ -108,6 +127,19 @@ A journal is one controller's.
   $ touch file; ./lab live examples/two_cells.toml --journal file/j </dev/null
   file/j: * (glob)
   [2]
+  $ ./lab live examples/two_cells.toml --journal file </dev/null
+  file: isn't a folder
+  [2]
+
+Its folder may lie in one that may not be read. That is told where a journal begins: so the folder's name can't be synced.
+
+  $ unread() { if [ "$(id -u)" = 0 ]; then setpriv --bounding-set=-dac_override,-dac_read_search "$@"; else "$@"; fi; }
+  $ mkdir -p above/v; chmod 300 above
+  $ for word in v v new; do unread ./lab live examples/two_cells.toml --journal above/$word </dev/null 2>&1 >/dev/null; done
+  above/v: the folder above may not be read, nor so synced: if power fails, this one may be lost
+  resumed after line 0: channels=0 calls=0
+  above/new: the folder above may not be read, nor so synced: if power fails, this one may be lost
+  $ chmod 700 above
 
 With a short history files are begun, each with the events that lead to its book, and audit reads each as a trace.
 

@@ -73,8 +73,9 @@ wasn't said, one that isn't UTF-8, one that is too long. One octet less is read.
 
 What may stand in a line is named, the line summary too.
 
-  $ printf 'summary extra\n' | ./lab live examples/two_cells.toml 2>&1 >/dev/null | sed 's/ open, .* with #/ .. with #/'
-  standard input:1: a line begins with .. with #, or is summary, found summary
+  $ printf 'Summary\nsummary extra\n' | ./lab live examples/two_cells.toml 2>&1 >/dev/null | sed 's/ open, .* with #/ .. with #/'
+  standard input:1: a line begins with .. with #, or is summary, found Summary
+  standard input:2: nothing stands behind summary
 
 Behind sim the lines that need it are read, and the others are as before.
 

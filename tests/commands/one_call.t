@@ -59,8 +59,22 @@ They are those whose words name it. What has no call, as octets that name no cha
   $ ./lab run examples/two_cells.toml two_calls.txt --words --call 1 | cmp - named
   $ grep -c . named
   14
-  $ ./lab run examples/two_cells.toml two_calls.txt --call 3
+
+Where no line is of the call, that is told; of two controllers where none of either is.
+
+  $ ./lab run examples/two_cells.toml two_calls.txt --call 3 2>errors
   end channels=0 calls=0 references=0 timers=0
+  $ cat errors
+  no line is of call 3
+  $ ./lab run examples/two_cells.toml two_calls.txt --call 3 --words --chart run.svg 2>&1 >/dev/null
+  no line is of call 3
+  $ printf 'open 1 0 0 3\n2: open 2 0 0 1\n' >each.txt
+  $ for call in 1 2 3; do ./lab run examples/two_cells.toml each.txt --peer examples/one_cell.toml --call $call 2>&1 >/dev/null; done
+  no line is of call 3
+  $ ./lab run examples/two_cells.toml two.txt --call 9
+  line 5
+  two.txt:5: 2: is for a second controller, and there is none (--peer SITE)
+  [2]
 
 On a chart inputs keep their numbers; counts and captures have all.
 

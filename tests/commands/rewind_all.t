@@ -92,6 +92,37 @@ Of two controllers each side is taken by itself, over its own site.
   $ cat errors
   two.trace:1: a line of the trace of two controllers, and rewind without --peer takes that of one
 
+A line without its mark is refused, and so is a first one behind a byte order mark; one that is of no controller is passed over.
+
+  $ for line in '1s/^1: in/in/' '9s/^1: event/event/' '13s/^2: event/event/' '1s/^/\xef\xbb\xbf/'; do
+  >   sed "$line" two.trace >bad.trace
+  >   ./lab rewind examples/two_cells.toml bad.trace --all --peer examples/one_cell.toml 2>>errors
+  > done
+  line 1
+  line 9
+  line 13
+  line 1
+  [2]
+  $ tail -n 4 errors
+  bad.trace:1: in the trace of two controllers 1: or 2: stands before this line
+  bad.trace:9: in the trace of two controllers 1: or 2: stands before this line
+  bad.trace:13: in the trace of two controllers 1: or 2: stands before this line
+  bad.trace:1: a byte order mark stands before the first word
+  $ sed '12a sim limit' two.trace >limit.trace
+  $ ./lab rewind examples/two_cells.toml limit.trace --all --peer examples/one_cell.toml | sed 's/ others .* settled/ .. settled/'
+  1: line 9 call 1 outgoing required .. settled yes held - choices - same
+  2: line 14 call 40000 incoming sent .. settled yes held - choices - same
+  $ sed '1s/^/\xef\xbb\xbf/' undone.trace >bad.trace
+  $ for words in 'rewind examples/two_cells.toml bad.trace --all' 'rewind examples/two_cells.toml bad.trace 6' \
+  >   'audit examples/two_cells.toml bad.trace' 'summary bad.trace'; do
+  >   ./lab $words 2>/dev/null
+  > done
+  line 1
+  line 1
+  line 1
+  line 1
+  [2]
+
 What is refused, is refused as by rewind, and nothing else is printed: of two controllers also where only the second's lines are
 wrong.
 

@@ -7,4 +7,4 @@ mod ranges;
 mod sides;
 
 pub use list::list_run;
-pub use sides::{is_of_two, side_text};
+pub use sides::{first_unmarked, is_of_two, side_text};

@@ -1,6 +1,6 @@
 //! A line for each undone attempt of a trace.
 use crate::ranges::{Numbers, Ranges};
-use crate::sides::{is_of_two, side_text};
+use crate::sides::{first_unmarked, is_of_two, side_text};
 use cell_table::Site;
 use lab_runs::listener::Printing;
 use lab_runs::run::{LabFault, Sites, Status, read_sites, refuse_site};
@@ -274,6 +274,9 @@ fn list_two<A: Allocator + Copy, W: Write>(
     texts: SidesTexts<'_>,
     out: &mut W,
 ) -> Result<Status, LabFault> {
+    if let Some(number) = first_unmarked(texts.trace) {
+        return refuse_line(number, out);
+    }
     let trace = side_text(alloc, Mark::First, texts.trace)?;
     let Some(first) = told_side(alloc, Mark::First, site, texts.first(&trace), out)? else {
         return Ok(Status::Refused);
@@ -311,7 +314,7 @@ fn list_sides<A: Allocator + Copy, W: Write>(
 /// `Done`, or `Differs` where one differs.
 ///
 /// What is refused there is refused here, by the same line, and nothing else is printed; so is a trace of two controllers
-/// where there is no second site. `scratch` serves while the sites are read, `alloc` for all else. Once memory was refused
+/// where there is no second site, or where a line of one of them has no mark. `scratch` serves while the sites are read, `alloc` for all else. Once memory was refused
 /// (`NoMemory`), or `out` can't be written to (`Write`), nothing more is printed.
 pub fn list_run<A: Allocator + Copy, W: Write>(
     alloc: A,

@@ -9,6 +9,17 @@ pub fn is_of_two(trace: &str) -> bool {
         .any(|line| line.starts_with("1: ") || line.starts_with("2: "))
 }
 
+/// Whether a line is read for what it says of a controller, and doesn't say of which: it has no mark.
+fn lacks_mark(line: &str) -> bool {
+    line.starts_with("in ") || line.starts_with("event ") || line.starts_with("none free ")
+}
+
+/// The first line of the trace of two controllers, counted from 1, that is of one of them, and has no mark.
+pub fn first_unmarked(trace: &str) -> Option<usize> {
+    let index = trace.split('\n').position(|line| lacks_mark(line))?;
+    Some(index.saturating_add(1))
+}
+
 /// A controller's line without its mark; nothing of another's.
 fn line_of(mark: Mark, line: &str) -> &str {
     match mark {

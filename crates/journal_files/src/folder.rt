@@ -91,10 +91,18 @@ impl<'a, R: Files + AllocGlobal> Folder<'a, R> {
         Folder { rt, path }
     }
 
-    /// Makes the folder, and those above it, unless it is there, and has its name on the disk.
-    pub fn make(&self) -> io::Result<()> {
+    /// Makes the folder, and those above it, unless it is there, and has its name on the disk. The answer is whether it has:
+    /// not where the folder above may not be read, which only who reads it can sync.
+    pub fn make(&self) -> io::Result<bool> {
         fs::create_dir_all(self.rt, self.path)?;
-        File::open(self.rt, parent_of(self.path))?.sync_all()
+        match File::open(self.rt, parent_of(self.path)) {
+            Ok(parent) => {
+                parent.sync_all()?;
+                Ok(true)
+            }
+            Err(error) if error.kind() == io::ErrorKind::PermissionDenied => Ok(false),
+            Err(error) => Err(error),
+        }
     }
 
     /// Opens the file by which the folder is locked, and has it for itself; nothing where another process has it. The folder

@@ -6,6 +6,7 @@ ghost use Rattle.lab.specs.Files.{longest_file};
 
 use crate::run_reason::{say_cut_script, say_refusal};
 use crate::script_notes::say_idle_settings;
+use crate::script_sites::say_other_sites;
 use crate::site_files::{SitePaths, SiteTexts, site_texts};
 use crate::view_paths::{named_twice, refuse_twice};
 use audits::viewed::{AskedRun, audit_viewed};
@@ -155,7 +156,8 @@ fn run_texts<R: Files + AllocGlobal, W: Write, E: Write>(
     out: &mut W,
     errors: &mut E,
 ) -> Result<Option<RunTexts>, LabFault> {
-    let Some(sites) = site_texts(rt, sites, out, errors)? else {
+    let given = sites;
+    let Some(sites) = site_texts(rt, given, out, errors)? else {
         return Ok(None);
     };
     let path = script;
@@ -163,6 +165,7 @@ fn run_texts<R: Files + AllocGlobal, W: Write, E: Write>(
         return Ok(None);
     };
     say_cut_script(path, &script, errors)?;
+    say_other_sites(rt, given, path, &script, errors)?;
     Ok(Some(RunTexts { sites, script }))
 }
 
@@ -176,14 +179,25 @@ pub(crate) fn ended_viewed(
     Ok(status)
 }
 
-/// How a run ended, once it was printed what it came to, where it came to its end and that was asked for.
-fn summed<W: Write>(
+/// Says that no line was of the call whose lines alone are shown, where that is so and something was run.
+fn say_unseen<W: Write, E: Write>(viewer: &Viewer<'_, W>, errors: &mut E) -> io::Result<()> {
+    match viewer.unseen_call() {
+        Some(call) if viewer.has_begun() => writeln!(errors, "no line is of call {call}"),
+        Some(_) | None => Ok(()),
+    }
+}
+
+/// How a run ended; where it came to its end, once it was printed what it came to, where that was asked for, and said that it
+/// had nothing of the call that was asked for.
+fn summed<W: Write, E: Write>(
     alloc: Global,
     ended: Result<Status, LabFault>,
     viewer: &mut Viewer<'_, W>,
+    errors: &mut E,
 ) -> Result<Status, LabFault> {
     let status = ended?;
     viewer.print_summary(alloc)?;
+    say_unseen(viewer, errors)?;
     Ok(status)
 }
 
@@ -206,7 +220,7 @@ fn run_viewed<R: Files + AllocGlobal, W: Write, E: Write>(
     let mut viewer = Viewer::new(alloc, views, peer.is_some(), out)?;
     viewer.note_script(script)?;
     let ended = run_for(alloc, alloc, sites.first(), peer, script, &mut viewer);
-    let ended = summed(alloc, ended, &mut viewer);
+    let ended = summed(alloc, ended, &mut viewer, errors);
     let written = if viewer.has_begun() {
         sheets.finish(&viewer, errors)
     } else {
@@ -274,8 +288,8 @@ fn say_ended<E: Write>(
 ///
 /// The site's file is read first, then the peer's, then the script's. Where a file isn't there, can't be read, isn't
 /// UTF-8 or has more than [`LONGEST_FILE`] octets, `file` and its path are printed and nothing else, and the answer is
-/// `Refused`; one line on `errors` says why. One says of a script whose last line has no line feed that it may be cut. Where
-/// a site is refused, one line on `errors` says where in its file, and what is allowed there; where a line of the script is,
+/// `Refused`; one line on `errors` says why. One says of a script whose last line has no line feed that it may be cut, and one of
+/// each site that it names and isn't run over. Where a site is refused, one line on `errors` says where in its file, and what is allowed there; where a line of the script is,
 /// one says which of its words is wrong, and what may stand there.
 pub fn run_files<R: Files + AllocGlobal, W: Write, E: Write>(
     rt: &R,

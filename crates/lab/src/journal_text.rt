@@ -22,8 +22,23 @@ fn whole_length(text: &str) -> Result<usize, WholeFault> {
     }
 }
 
+/// Refuses a trace with a byte order mark in front, behind which its first line would be passed over.
+fn refuse_marked<W: Write, E: Write>(
+    path: &str,
+    out: &mut W,
+    errors: &mut E,
+) -> Result<Option<String>, LabFault> {
+    writeln!(
+        errors,
+        "{}:1: a byte order mark stands before the first word",
+        Escaped(path)
+    )?;
+    writeln!(out, "line 1")?;
+    Ok(None)
+}
+
 /// The text of a trace's file, which may be a journal's; nothing where the file can't be read, or is a damaged journal's, and then
-/// its path was printed, and on `errors` why.
+/// its path was printed, or where a byte order mark stands in front, and then `line 1` was, and on `errors` why.
 pub(crate) fn trace_of<R: Files + AllocGlobal, W: Write, E: Write>(
     rt: &R,
     path: &str,
@@ -33,6 +48,9 @@ pub(crate) fn trace_of<R: Files + AllocGlobal, W: Write, E: Write>(
     let Some(text) = text_of(rt, path, out, errors)? else {
         return Ok(None);
     };
+    if text.starts_with("\u{feff}") {
+        return refuse_marked(path, out, errors);
+    }
     match whole_length(&text) {
         Ok(length) if length == text.len() => Ok(Some(text)),
         Ok(length) => {

@@ -67,6 +67,19 @@ fn say_others<E: Write>(path: &str, listing: &Listing, errors: &mut E) -> Result
     Ok(())
 }
 
+/// Tells that the name of a folder in which a journal begins may not be on the disk, where it isn't known to be.
+fn say_unsynced<E: Write>(path: &str, is_named: bool, errors: &mut E) -> Result<(), OpenFault> {
+    if is_named {
+        return Ok(());
+    }
+    writeln!(
+        errors,
+        "{}: the folder above may not be read, nor so synced: if power fails, this one may be lost",
+        Escaped(path)
+    )
+    .map_err(|_| OpenFault::Write)
+}
+
 /// Tells why a file is refused.
 fn refuse<F: fmt::Display + Drop, E: Write>(path: &str, fault: F, errors: &mut E) -> OpenFault {
     match writeln!(errors, "{}: {fault}", Escaped(path)) {
@@ -239,7 +252,7 @@ where
     R::File: Locking,
 {
     let folder = Folder::new(rt, words.folder);
-    folder.make()?;
+    let is_named = folder.make()?;
     let Some(lock) = folder.lock()? else {
         return Err(refuse(words.folder, "another controller has this journal", errors));
     };
@@ -248,13 +261,25 @@ where
     let Listing { spans, others: _ } = listing;
     let (journal, book) = match spans.last().copied() {
         Some(last) => go_on(rt, folder, words, spans, last, site, site_sum, out, errors)?,
-        None => begin(rt, folder, words, site, site_sum, errors)?,
+        None => {
+            say_unsynced(words.folder, is_named, errors)?;
+            begin(rt, folder, words, site, site_sum, errors)?
+        }
     };
     Ok(Opened {
         journal,
         book,
         lock,
     })
+}
+
+/// Tells why a folder can't have a journal: another thing stands there, or what the system says.
+fn say_system<E: Write>(path: &str, error: &io::Error, errors: &mut E) -> io::Result<()> {
+    if error.kind() == io::ErrorKind::AlreadyExists {
+        writeln!(errors, "{}: isn't a folder", Escaped(path))
+    } else {
+        writeln!(errors, "{}: {}", Escaped(path), Reason(error))
+    }
 }
 
 /// Opens the journal of a folder: goes on with the one that is there, or begins one. Nothing where it is refused, as `errors` then
@@ -276,7 +301,7 @@ where
         Err(OpenFault::Write) => Err(LabFault::Write),
         Err(OpenFault::Told) => Ok(None),
         Err(OpenFault::System(error)) => {
-            writeln!(errors, "{}: {}", Escaped(words.folder), Reason(&error))?;
+            say_system(words.folder, &error, errors)?;
             Ok(None)
         }
     }

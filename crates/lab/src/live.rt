@@ -103,6 +103,15 @@ fn live_viewed<R: Files + AllocGlobal, I: BufRead + LineReader, W: Write, E: Wri
     ended_viewed(ended_live(ended, errors), written)
 }
 
+/// How lines are taken behind the last one that a journal has.
+fn rules_behind(last: u64, entries: usize) -> Rules {
+    Rules {
+        first: (last as usize).saturating_add(1),
+        entries,
+        sims: false,
+    }
+}
+
 /// The same with a journal that was opened.
 fn live_journaled<R: Files + AllocGlobal, I: BufRead + LineReader, W: Write, E: Write>(
     rt: &R,
@@ -126,13 +135,10 @@ where
         book,
         lock: _lock,
     } = opened;
-    let rules = Rules {
-        first: (journal.last() as usize).saturating_add(1),
-        entries: asked.entries,
-        sims: false,
-    };
+    let rules = rules_behind(journal.last(), asked.entries);
     let mut held = Held::new(alloc, out);
-    let viewer = LiveViewer::new(alloc, asked.views, sheets, &mut held, errors)?;
+    let mut viewer = LiveViewer::new(alloc, asked.views, sheets, &mut held, errors)?;
+    viewer.begin_with(&book)?;
     let mut journaled = Journaled::new(
         alloc,
         viewer,

@@ -2,7 +2,7 @@
 use crate::files::text_of;
 use crate::run_reason::{say_cut_script, say_line, say_refusal};
 use crate::script_notes::{say_idle_settings, say_slipped};
-use crate::script_sites::{ScriptSites, fault_of, sites_of_script};
+use crate::script_sites::{ScriptSites, fault_of, say_other_sites, sites_of_script};
 use crate::site_files::{SitePaths, SiteTexts, say_reasons, site_texts};
 use expectations::Recording;
 use idle_settings::Idle;
@@ -257,6 +257,7 @@ pub fn record_file<R: Files + AllocGlobal, W: Write, E: Write>(
         return Ok(Status::Refused);
     };
     say_cut_script(script, &text, errors)?;
+    say_other_sites(rt, paths, script, &text, errors)?;
     let peer = sites.peer();
     let status = record_run(alloc, alloc, sites.first(), peer, &text, recording, out)?;
     if status == Status::Refused {

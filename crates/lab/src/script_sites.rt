@@ -1,5 +1,6 @@
 //! The sites that a script names for itself.
 use crate::site_files::{SitePaths, SiteTexts, say_reasons, site_texts};
+use crate::view_paths::is_same;
 use cell_table::SiteFault;
 use expectations::{peer_in, site_in};
 use lab_runs::run::{LabFault, read_sites};
@@ -144,4 +145,74 @@ pub(crate) fn sites_of_script<R: Files + AllocGlobal, E: Write>(
         peer: peer.as_ref().map(|path| path.as_str()),
     };
     texts_at(rt, paths, errors)
+}
+
+/// Says that a line of a script names another site than this, if it does.
+fn say_other_site<R: Files + AllocGlobal, E: Write>(
+    rt: &R,
+    site: &str,
+    path: &str,
+    (line, name): (usize, &str),
+    errors: &mut E,
+) -> Result<(), LabFault> {
+    let named = beside(rt.alloc(), path, name)?;
+    if !is_same(rt, site, &named) {
+        writeln!(
+            errors,
+            "{}:{line}: names the site {}, and is run over {}",
+            Escaped(path),
+            Escaped(&named),
+            Escaped(site)
+        )?;
+    }
+    Ok(())
+}
+
+/// The same of a peer's site; there may be none.
+fn say_other_peer<R: Files + AllocGlobal, E: Write>(
+    rt: &R,
+    peer: Option<&str>,
+    path: &str,
+    (line, name): (usize, &str),
+    errors: &mut E,
+) -> Result<(), LabFault> {
+    let named = beside(rt.alloc(), path, name)?;
+    match peer {
+        Some(peer) if is_same(rt, peer, &named) => Ok(()),
+        Some(peer) => Ok(writeln!(
+            errors,
+            "{}:{line}: names the peer {}, and is run beside {}",
+            Escaped(path),
+            Escaped(&named),
+            Escaped(peer)
+        )?),
+        None => Ok(writeln!(
+            errors,
+            "{}:{line}: names the peer {}, and is run without one",
+            Escaped(path),
+            Escaped(&named)
+        )?),
+    }
+}
+
+/// Says where a script names another site, or another peer's, than those over which it is run: only `test` goes by what it
+/// names.
+pub(crate) fn say_other_sites<R: Files + AllocGlobal, E: Write>(
+    rt: &R,
+    given: SitePaths<'_>,
+    path: &str,
+    script: &str,
+    errors: &mut E,
+) -> Result<(), LabFault> {
+    for (place, line) in script.split('\n').enumerate() {
+        let number = place.saturating_add(1);
+        let line = without_return(line);
+        if let Some(name) = site_in(line) {
+            say_other_site(rt, given.first, path, (number, name), errors)?;
+        }
+        if let Some(name) = peer_in(line) {
+            say_other_peer(rt, given.peer, path, (number, name), errors)?;
+        }
+    }
+    Ok(())
 }

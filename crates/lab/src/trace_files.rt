@@ -2,7 +2,7 @@
 use crate::files::text_of;
 use crate::journal_text::trace_of;
 use crate::site_files::{SitePaths, SiteTexts, say_reasons, say_site, site_texts};
-use attempt_lists::{is_of_two, list_run, side_text};
+use attempt_lists::{first_unmarked, is_of_two, list_run, side_text};
 use audits::traced::audit_run;
 use lab_runs::run::{LabFault, Status};
 use read_traces::reasons::say_untold;
@@ -82,7 +82,8 @@ fn kept_whole(ended: Result<Status, LabFault>) -> Result<Status, LabFault> {
 }
 
 /// Takes an undone attempt out of the trace of one file, over the site of another, and prints what stays, as
-/// [`rewind_run`] does of texts; nothing where memory is refused. Files and the site are refused as [`run_files`](crate::files::run_files) refuses them.
+/// [`rewind_run`] does of texts; nothing where memory is refused. Files and the site are refused as
+/// [`run_files`](crate::files::run_files) refuses them, and so is a trace with a byte order mark in front.
 pub fn rewind_files<R: Files + AllocGlobal, W: Write, E: Write>(
     rt: &R,
     site: &str,
@@ -133,6 +134,19 @@ fn sides_texts<R: Files + AllocGlobal, W: Write, E: Write>(
     Ok(Some(SidesTexts { sites, trace }))
 }
 
+/// Says which line of the trace of two controllers doesn't say of which it is; answers whether one doesn't.
+fn say_unmarked<E: Write>(path: &str, trace: &str, errors: &mut E) -> io::Result<bool> {
+    let Some(number) = first_unmarked(trace) else {
+        return Ok(false);
+    };
+    writeln!(
+        errors,
+        "{}:{number}: in the trace of two controllers 1: or 2: stands before this line",
+        Escaped(path)
+    )?;
+    Ok(true)
+}
+
 /// Says why the lines of one of two controllers are refused; answers whether they are.
 fn say_refused_side<E: Write>(
     alloc: Global,
@@ -161,7 +175,8 @@ fn say_refused_sides<E: Write>(
     match texts.sites.peer() {
         Some(peer) if is_of_two(trace) => {
             Ok(
-                say_refused_side(alloc, Mark::First, site, path, trace, errors)?
+                say_unmarked(path, trace, errors)?
+                    || say_refused_side(alloc, Mark::First, site, path, trace, errors)?
                     || say_refused_side(alloc, Mark::Peer, peer, path, trace, errors)?,
             )
         }
@@ -177,7 +192,8 @@ fn has_no_event_of_any(text: &str) -> bool {
 }
 
 /// Takes each undone attempt out of the trace of one file by itself, over the sites of others, and prints a line for each, as
-/// [`list_run`] does of texts; nothing where memory is refused. Files and sites are refused as [`run_files`](crate::files::run_files) refuses them.
+/// [`list_run`] does of texts; nothing where memory is refused. Files and sites are refused as
+/// [`run_files`](crate::files::run_files) refuses them, and so is a trace with a byte order mark in front.
 pub fn rewind_all_files<R: Files + AllocGlobal, W: Write, E: Write>(
     rt: &R,
     sites: SitePaths<'_>,
@@ -203,7 +219,8 @@ pub fn rewind_all_files<R: Files + AllocGlobal, W: Write, E: Write>(
 }
 
 /// Takes all settled attempts out of the trace of one file, over the site of another, and prints what that comes to, as
-/// [`audit_run`] does of texts; nothing where memory is refused. Files and the site are refused as [`run_files`](crate::files::run_files) refuses them.
+/// [`audit_run`] does of texts; nothing where memory is refused. Files and the site are refused as
+/// [`run_files`](crate::files::run_files) refuses them, and so is a trace with a byte order mark in front.
 pub fn audit_files<R: Files + AllocGlobal, W: Write, E: Write>(
     rt: &R,
     site: &str,

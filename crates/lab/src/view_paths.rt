@@ -30,7 +30,7 @@ fn place_of<R: Files>(rt: &R, path: &str) -> Place {
 }
 
 /// Whether two paths are those of one regular file. Where that isn't known, paths are compared.
-fn is_same<R: Files>(rt: &R, one: &str, other: &str) -> bool {
+pub(crate) fn is_same<R: Files>(rt: &R, one: &str, other: &str) -> bool {
     match (place_of(rt, one), place_of(rt, other)) {
         (Place::Regular(device, number), Place::Regular(other_device, other_number)) => {
             device == other_device && number == other_number

@@ -1,13 +1,15 @@
 //! Which call a line is about.
 use crate::content::Content;
+use crate::held::{call_in, states_in};
 use channel_fsm::ChanId;
 use ho_procedure::exchange::{Inbound, Line};
+use radio_book::book::Book;
 use radio_book::event::{Event, Reply};
 use std::alloc::{AllocError, Allocator, Global};
 use std::collections::BTreeMap;
 use trace_text::trace::{Mark, Step, TraceLine};
 
-/// The calls of one controller, as far as its lines told them.
+/// The calls of one controller, as far as the book told them with which its lines begin, and these.
 #[derive(Drop)]
 struct Known<A: Allocator = Global> {
     /// The call of the input that was handled last.
@@ -88,6 +90,17 @@ impl<A: Allocator + Copy> Known<A> {
         }
     }
 
+    /// The calls that have a channel in a book are known.
+    fn of_book(alloc: A, book: &Book<A>) -> Result<Known<A>, AllocError> {
+        let mut known = Known::new(alloc);
+        for (chan, state) in states_in(alloc, book)? {
+            if let Some(call) = call_in(state) {
+                known.channels.insert(chan, call)?;
+            }
+        }
+        Ok(known)
+    }
+
     /// The call that had a channel last.
     fn had(&self, chan: ChanId) -> Option<u16> {
         self.channels.get(&chan).copied()
@@ -146,7 +159,7 @@ impl<A: Allocator + Copy> Known<A> {
     }
 }
 
-/// The calls of one controller or two, as far as the lines of their trace told them.
+/// The calls of one controller or two, as far as the lines of their trace told them, or the book with which it begins.
 #[derive(Drop)]
 pub struct Calls<A: Allocator = Global> {
     first: Known<A>,
@@ -162,9 +175,17 @@ impl<A: Allocator + Copy> Calls<A> {
         }
     }
 
+    /// The calls that have a channel in the book of one controller are known: its trace begins with that.
+    pub fn of_book(alloc: A, book: &Book<A>) -> Result<Calls<A>, AllocError> {
+        Ok(Calls {
+            first: Known::of_book(alloc, book)?,
+            peer: Known::new(alloc),
+        })
+    }
+
     /// The call that the next line of the trace, which carries this, is about, 0 to 65535: the one that it names; of a
     /// channel and of a message on Abis the call that had the channel last; of a fault and of a cell without a free channel
-    /// that of the input. `None` where no line before it told one.
+    /// that of the input. `None` where neither the book at the beginning nor a line before it told one.
     pub fn call_of(
         &mut self,
         mark: Mark,

@@ -65,3 +65,30 @@ pub(crate) fn state_of<A: Allocator + Copy>(
         None => Ok(None),
     }
 }
+
+/// The channels of a controller that aren't free, each with its state.
+pub(crate) fn states_in<A: Allocator + Copy>(
+    alloc: A,
+    book: &Book<A>,
+) -> Result<Vec<(ChanId, ChanState), A>, AllocError> {
+    let site = book.site();
+    // questions are events, too
+    let mut copy = book.copy()?;
+    let mut states = Vec::new(alloc);
+    for place in 0..site.channels() {
+        if let Some(chan) = site.chan_at(place)
+            && let Some(state) = state_of(&mut copy, chan)?
+        {
+            states.push((chan, state))?;
+        }
+    }
+    Ok(states)
+}
+
+/// The call that has a channel in this state.
+pub(crate) fn call_in(state: ChanState) -> Option<u16> {
+    match state {
+        ChanState::Held(call) | ChanState::Pending(call) | ChanState::On(call) => Some(call),
+        ChanState::Free | ChanState::Off => None,
+    }
+}

@@ -1,8 +1,9 @@
 //! What the book of a controller holds, as lines.
 //!
-//! A book answers questions about a call and about a channel. Which there may be is kept from the events that were asked.
+//! A book answers questions about a call and about a channel. Which there may be is kept from the events that were asked, and
+//! found in the book with which they began.
 use crate::calls::taken_by;
-use crate::held::{record_of, state_of};
+use crate::held::{call_in, record_of, state_of, states_in};
 use channel_fsm::{ChanId, ChanState};
 use lab_runs::run::LabFault;
 use radio_book::book::Book;
@@ -12,7 +13,7 @@ use std::collections::BTreeSet;
 use std::io::{self, Write};
 use trace_text::trace::{Mark, ReplyText, Step};
 
-/// What the events of a controller named so far.
+/// What the events of a controller named so far, and what the book had with which they began.
 #[derive(Drop)]
 struct Named<A: Allocator + Copy = Global> {
     calls: BTreeSet<u16, A>,
@@ -110,6 +111,18 @@ impl<A: Allocator + Copy> Named<A> {
         }
     }
 
+    /// What a book has was named.
+    fn of_book(alloc: A, book: &Book<A>) -> Result<Named<A>, AllocError> {
+        let mut named = Named::new(alloc);
+        for (chan, state) in states_in(alloc, book)? {
+            named.channels.insert(chan)?;
+            if let Some(call) = call_in(state) {
+                named.calls.insert(call)?;
+            }
+        }
+        Ok(named)
+    }
+
     /// An event was asked.
     fn note(&mut self, event: Event) -> Result<(), AllocError> {
         if let Some((call, chan)) = taken_by(event) {
@@ -139,6 +152,14 @@ impl<A: Allocator + Copy> StateLines<A> {
             first: Named::new(alloc),
             peer: Named::new(alloc),
         }
+    }
+
+    /// The book of one controller will be asked, which has this.
+    pub fn of_book(alloc: A, book: &Book<A>) -> Result<StateLines<A>, AllocError> {
+        Ok(StateLines {
+            first: Named::of_book(alloc, book)?,
+            peer: Named::new(alloc),
+        })
     }
 
     /// Keeps what an event of a controller names.

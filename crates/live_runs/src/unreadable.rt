@@ -17,6 +17,8 @@ pub enum Unreadable<'a> {
     ForPeer,
     /// It attaches simulators where none may be: what they have isn't in a journal.
     NoSimulators,
+    /// It asks what came so far, and something stands behind that.
+    BehindSummary,
     /// It is no line of a script, or asks something of simulators that aren't there.
     NotScript(Reason<'a>),
 }
@@ -35,6 +37,7 @@ impl fmt::Display for Unreadable<'_> {
                     "simulators can't be attached to a controller with a journal"
                 )
             }
+            Unreadable::BehindSummary => write!(f, "nothing stands behind summary"),
             Unreadable::NotScript(reason) => write!(f, "{}", LoneReason(*reason)),
         }
     }
@@ -49,10 +52,17 @@ fn reason_of(text: &str, has_sim: bool) -> Option<Reason<'_>> {
     }
 }
 
-/// A reason of scripts, as it is said of lines as they come.
-fn unreadable_by(reason: Reason<'_>) -> Unreadable<'_> {
+/// Whether a text asks what came so far, with something behind that.
+fn is_behind_summary(text: &str) -> bool {
+    text.starts_with("summary ")
+}
+
+/// A reason of scripts why a text can't be read, as it is said of lines as they come.
+fn unreadable_by<'a>(text: &str, reason: Reason<'a>) -> Unreadable<'a> {
     if reason.fault == Fault::NoPeer {
         Unreadable::ForPeer
+    } else if is_behind_summary(text) {
+        Unreadable::BehindSummary
     } else {
         Unreadable::NotScript(reason)
     }
@@ -64,7 +74,7 @@ pub fn unreadable_of(line: &[u8], has_sim: bool) -> Option<Unreadable<'_>> {
         return Some(Unreadable::TooLong);
     }
     match str::from_utf8(line) {
-        Ok(text) => Some(unreadable_by(reason_of(text, has_sim)?)),
+        Ok(text) => Some(unreadable_by(text, reason_of(text, has_sim)?)),
         Err(fault) => Some(Unreadable::NotText(fault.valid_up_to().saturating_add(1))),
     }
 }

@@ -12,7 +12,7 @@ use lab_runs::turn::Turn;
 use live_runs::LiveListener;
 use radio_book::book::Book;
 use screen_text::{Escaped, Reason};
-use std::alloc::{Allocator, Global};
+use std::alloc::{AllocError, Allocator, Global};
 use std::fs::OpenFile;
 use std::io::{self, Write};
 use trace_text::trace::Mark;
@@ -76,6 +76,11 @@ impl<'a, 'p, W: Write, F: Write + OpenFile + Drop, A: Allocator + Copy> LiveView
             is_cut: false,
             unmet: None,
         })
+    }
+
+    /// What is told begins with this book, and not with an empty one.
+    pub fn begin_with(&mut self, book: &Book<A>) -> Result<(), AllocError> {
+        self.viewer.begin_with(book)
     }
 
     /// Ends it: says on `errors` how many messages the capture hasn't. Where its file couldn't be written to the end, as

@@ -42,6 +42,8 @@ pub struct Viewer<'a, W: Write, A: Allocator + Copy = Global> {
     origins: Option<Origins<A>>,
     /// The call whose lines alone are shown.
     only: Option<u16>,
+    /// Whether a line was of that call.
+    has_seen: bool,
     /// Whether something was run.
     has_begun: bool,
     /// How many messages of the answer that is told now, or was told last, were shown.
@@ -82,6 +84,7 @@ impl<'a, W: Write, A: Allocator + Copy> Viewer<'a, W, A> {
             lines: views.lines,
             origins: None,
             only: views.call,
+            has_seen: false,
             has_begun: false,
             shown: 0,
             alloc,
@@ -101,6 +104,11 @@ impl<'a, W: Write, A: Allocator + Copy> Viewer<'a, W, A> {
     /// Whether something was run: not where a site or a script is refused.
     pub fn has_begun(&self) -> bool {
         self.has_begun
+    }
+
+    /// The call whose lines alone are shown, where no line was of it.
+    pub fn unseen_call(&self) -> Option<u16> {
+        if self.has_seen { None } else { self.only }
     }
 
     /// The run is to be one of this script: which of its lines give something is noted, where that is to be shown.
@@ -127,6 +135,15 @@ impl<'a, W: Write, A: Allocator + Copy> Viewer<'a, W, A> {
                 self.only.is_none() || self.only == call
             }
         }
+    }
+
+    /// What is told of one controller begins with this book.
+    pub(crate) fn begin_with(&mut self, book: &Book<A>) -> Result<(), AllocError> {
+        self.calls = Calls::of_book(self.alloc, book)?;
+        if self.state.is_some() {
+            self.state = Some(StateLines::of_book(self.alloc, book)?);
+        }
+        Ok(())
     }
 
     /// From here on what the lines of one controller come to is counted.
@@ -170,6 +187,7 @@ impl<'a, W: Write, A: Allocator + Copy> Viewer<'a, W, A> {
         let content = content_of(self.alloc, line)?;
         let call = self.calls.call_of(mark, line, &content)?;
         self.gather(mark, line, &content, call)?;
+        self.has_seen = self.has_seen || (call.is_some() && call == self.only);
         if !self.shows(line, call) {
             return Ok(false);
         }
