@@ -71,8 +71,7 @@ Where no line is of the call, that is told; of two controllers where none of eit
   $ printf 'open 1 0 0 3\n2: open 2 0 0 1\n' >each.txt
   $ for call in 1 2 3; do ./lab run examples/two_cells.toml each.txt --peer examples/one_cell.toml --call $call 2>&1 >/dev/null; done
   no line is of call 3
-  $ ./lab run examples/two_cells.toml two.txt --call 9
-  line 5
+  $ ./lab run examples/two_cells.toml two.txt --call 9 2>&1 >/dev/null
   two.txt:5: 2: is for a second controller, and there is none (--peer SITE)
   [2]
 
