@@ -15,11 +15,17 @@ from calls import OFF, ON, PENDING, Event
 from journal import Journal, JournalError
 from operators import shown
 from tell import say
+from watch import Watch
 
 # In how many seconds a controller may end so often, and how long it may take to go on over its journal, or to end for another.
 PERIOD, LONGEST = 60.0, 120.0
 # After which time is looked again whether it is gone.
 SOON = 0.02
+# One that ended though it had done nothing since it was started is started again behind a pause: not the first time, then behind
+# the first of these, and each time behind twice as long a one, up to the second. One that ran for that long hasn't ended at once.
+PAUSE, LONGEST_PAUSE = 0.1, 10.0
+# How many lines it may print before it goes on, which answer nothing.
+MOST_EARLY = 1000
 # What it says once it goes on.
 RESUMED = re.compile(rb"resumed after line (\d+): .*")
 
@@ -42,12 +48,17 @@ class Upgrade:
 class Again:
     """The controller of a bridge, which may end and be started again."""
 
-    def __init__(self, bridge, command, most):
-        """`most` is how many times it is started again in a minute."""
+    def __init__(self, bridge, command, most, hang):
+        """`most` is how many times it is started again in a minute, `hang` how many seconds it may hang."""
         self.bridge, self.relay, self.times = bridge, bridge.relay, bridge.times
         self.command, self.most = command, most
         self.journal = Journal.of(command)
+        self.watch = Watch(bridge, hang)
         self.ended_at, self.count = [], 0
+        # when it was started, and behind which line; how often in a row it then ended at once
+        self.begun_at, self.begun, self.vain = 0.0, 0, 0
+        # how many lines it has printed before it goes on; None where it needn't
+        self.early = None
         self.upgrading = None
         # whether the book is one that the bridge hasn't seen yet; and whether a controller has gone on over its journal
         self.is_new, self.has_gone_on = True, False
@@ -61,6 +72,8 @@ class Again:
             self.fail(f"{self.journal.folder}: the journal is gone")
             return
         self.relay.is_away = is_resuming
+        self.begun_at, self.begun, self.early = time.monotonic(), self.relay.line, 0 if is_resuming else None
+        self.watch.begin()
         self.bridge.start_core(self.command)
         if is_resuming:
             self.times.set("resume", LONGEST, self.is_too_slow)
@@ -80,11 +93,24 @@ class Again:
             return False
         say(f"controller: {shown(line)}")
         self.times.forget("resume")
-        self.has_gone_on = True
+        self.has_gone_on, self.early = True, None
+        self.watch.go_on()
         try:
             self.resume(int(found[1]))
         except (JournalError, OSError) as error:
             self.fail(str(error))
+        return True
+
+    def passes_over(self, line):
+        """Whether a line that it prints answers nothing, since it hasn't gone on yet; who prints many is another program."""
+        if self.early is None:
+            return False
+        self.early += 1
+        if self.early == 1:
+            say(f"before it goes on the controller prints: {shown(line)}")
+        elif self.early == MOST_EARLY:
+            say(f"before it goes on the controller prints {MOST_EARLY} lines, and is killed")
+            self.bridge.kill_core()
         return True
 
     def resume(self, last):
@@ -118,6 +144,7 @@ class Again:
             relay.log.note("another controller goes on here, which gathers measurements anew")
         relay.is_away, relay.held = False, 0
         relay.core.send(b"".join(line + b"\n" for line, *_ in relay.given))
+        self.watch.await_answer()
         if self.bridge.is_ending:
             self.bridge.finish_core()
 
@@ -148,18 +175,39 @@ class Again:
             # it can't begin
             self.end("the controller has ended")
         else:
-            self.go_on(status)
+            self.go_on(f"the controller has ended with status {status} behind line {self.relay.line}")
 
-    def go_on(self, status):
-        """It has ended by itself, and is started again, unless that was too often."""
-        now, told = time.monotonic(), f"the controller has ended with status {status} behind line {self.relay.line}"
+    def go_on(self, why):
+        """It has ended by itself, or can't be started, and is started again, unless that was too often."""
+        now = time.monotonic()
         self.ended_at = [*(it for it in self.ended_at if it > now - PERIOD), now]
         if len(self.ended_at) > self.most:
-            say(told)
+            say(why)
             self.fail(f"the controller has ended {len(self.ended_at)} times in {PERIOD:g} seconds")
+            return
+        pause = self.pause(now)
+        say(f"{why}, and is started again" + (f" in {pause:g} seconds" if pause else ""))
+        self.count += 1
+        if pause:
+            self.times.set("again", pause, self.try_to_start)
         else:
-            say(f"{told}, and is started again")
-            self.count += 1
+            self.try_to_start()
+
+    def pause(self, now):
+        """How long is waited until it is started again. A bridge that ends doesn't wait."""
+        if self.relay.line > self.begun or now - self.begun_at > LONGEST_PAUSE:
+            self.vain = 0
+        self.vain += 1
+        return 0 if self.vain == 1 or self.bridge.is_ending else min(PAUSE * 2 ** (self.vain - 2), LONGEST_PAUSE)
+
+    def is_paused(self):
+        """Whether it waits to be started again."""
+        return self.times.is_set("again")
+
+    def hurry(self):
+        """The bridge ends: where the controller waits to be started again it is now."""
+        if self.is_paused():
+            self.times.forget("again")
             self.try_to_start()
 
     def can_be_again(self):
@@ -179,7 +227,11 @@ class Again:
         try:
             self.start()
         except OSError as error:
-            self.fail(f"the controller can't be started again: {error}")
+            self.relay.is_away, why = True, f"the controller can't be started: {error}"
+            if self.bridge.is_ending:
+                self.fail(why)
+            else:
+                self.go_on(why)
 
     def fail(self, why):
         """No controller can go on: the bridge ends, and not well."""
@@ -202,6 +254,11 @@ class Again:
             operator.tell(f"refused: upgrade {program}: {why}")
             return
         self.upgrading = Upgrade(operator, program, self.command)
+        if self.is_paused():
+            # none is there that would have to end
+            self.times.forget("again")
+            self.go_elsewhere("")
+            return
         self.relay.is_away = True
         self.relay.core.finish()
         self.times.set("resume", LONGEST, self.is_too_slow)
@@ -212,7 +269,7 @@ class Again:
             return "no program that can be run"
         if not self.journal:
             return "the controller has no journal"
-        if self.relay.is_away or self.relay.core is None or self.relay.core.is_last:
+        if not self.is_paused() and (self.relay.is_away or self.relay.core is None or self.relay.core.is_last):
             return "the controller isn't there just now"
         return None
 

@@ -12,7 +12,7 @@ from again import Again
 from figures import FiguresFile
 from links import Links
 from log import Log
-from operators import QUIET, Client, Operator
+from operators import QUIET, Client, Operator, shown
 from relay import Relay
 from stream import Lines, Stream, Times
 from tell import ERRORS, OUTPUT, say
@@ -31,7 +31,7 @@ class Bridge:
 
     def __init__(self, words, make_relay=Relay):
         """`words` are the settings: `stations`, `seconds`, `bind`, `port`, `log`, `control`, `figures`, `figures_every`,
-        `messages`, `again`, and `core`, the controller's command."""
+        `messages`, `again`, `hang`, and `core`, the controller's command."""
         self.words = words
         self.selector = selectors.PollSelector()
         self.times = Times()
@@ -44,7 +44,7 @@ class Bridge:
         self.listeners = []
         self.control = self.figures = None
         self.core = None
-        self.again = self.relay.again = Again(self, words.core, words.again)
+        self.again = self.relay.again = Again(self, words.core, words.again, words.hang)
         # whether all ends, and whether the controller was killed for that
         self.is_ending = self.is_killed = False
 
@@ -76,10 +76,15 @@ class Bridge:
         for file, number in zip(files, (reads, writes, errors)):
             file.close()
             os.set_blocking(number, False)
-        lines = Lines(self.relay.hear)
+        lines = Lines(self.hear)
         self.relay.core = Stream(self.selector, reads, writes, lines.add, lambda: self.core_ended(lines), self.core_unread)
         said = Lines(self.hear_error)
         self.errors = Stream(self.selector, errors, None, said.add, lambda: self.errors_ended(said))
+
+    def hear(self, line):
+        """Hears what the controller prints."""
+        if not self.again.passes_over(line):
+            self.relay.hear(line)
 
     def core_unread(self):
         """The controller reads no more. What it still sends is handed on, or comes again from its journal."""
@@ -180,6 +185,7 @@ class Bridge:
         if self.relay.core and not self.relay.is_away:
             self.finish_core()
         # one that is away goes on first: what waits is given to it yet
+        self.again.hurry()
 
     def finish_core(self):
         """Has the controller end, behind the lines that it has."""
@@ -193,7 +199,9 @@ class Bridge:
         self.kill_core()
 
     def kill_core(self):
-        """Kills the controller, and what it has begun."""
+        """Kills the controller, and what it has begun; not one that is gone, whose number may be another's."""
+        if self.core.returncode is not None:
+            return
         with contextlib.suppress(ProcessLookupError):
             os.killpg(self.core.pid, signal.SIGKILL)
 
@@ -206,10 +214,10 @@ class Bridge:
             return self.core.wait()
 
     def core_ended(self, lines):
-        """The controller has ended. Where it is started again, half a line comes again from its journal."""
+        """The controller has ended. Half a line isn't heard: where it is started again, it comes again from its journal."""
         rest, is_untimely = lines.end(), self.relay.is_away or not self.is_ending or self.again.is_untimely()
         if rest and not (is_untimely and self.again.goes_on()):
-            self.relay.hear(rest)
+            say(f"the controller ended amid a line, which isn't heard: {shown(rest)}")
         self.relay.core.close()
         self.relay.core = None
         if is_untimely:

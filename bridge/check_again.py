@@ -39,10 +39,10 @@ def controller(room, program, name="controller", first=""):
     return program_that(room, name, f'#!/bin/sh\n{first}\nexec "{CONTROLLER}" "{program}" "$@"\n')
 
 
-def journaled(start, room, program, *options, again=OFTEN, first=""):
+def journaled(start, room, program, *options, again=OFTEN, first="", **others):
     """A bridge whose controller has a journal."""
     core = (controller(room, program, first=first), "live", SITE, "--journal", "journal")
-    return start(*again, *options, core=core)
+    return start(*again, *options, core=core, **others)
 
 
 def plan(journal, *places):
@@ -288,7 +288,7 @@ def full_disk(start, room, program):
         disk.fill()
         bridge.ask("\n".join([NOTHING] * FILLING))
         for _ in range(3):
-            bridge.said.expect("has ended with status 2 behind line .* is started again$")
+            bridge.said.expect("has ended with status 2 behind line .* is started again")
         disk.empty()
         bridge.ask("clear 1")
         bridge.expect("^event released 0/0/3 -> done$")

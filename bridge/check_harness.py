@@ -83,10 +83,11 @@ def ends_with_all(_start, room, _program):
     there are none."""
     path = room / "demonstration"
     path.write_text(DEMONSTRATION.format(folder=str(FOLDER)))
-    for number in (signal.SIGKILL, signal.SIGTERM, signal.SIGINT):
+    for number in (signal.SIGTERM, signal.SIGINT, signal.SIGHUP, signal.SIGKILL):
         begun = demonstrate(path, 1000)
         begun.send_signal(number)
         ends_so(begun, number)
+        must(number == signal.SIGKILL or not list(room.glob("tmp*")), f"a folder stays: {number}")
     begun = demonstrate(path, 1000)
     os.kill(children(begun.pid)[0], signal.SIGKILL)
     ends_so(begun, "its unshare is killed")

@@ -40,7 +40,8 @@ def enter(name, programs, packages, seconds):
     if subprocess.run([*words, "sh", "-c", begin, "sh", "true"], capture_output=True).returncode:
         return left_out(name, "no namespaces of networks and processes are to be had (unshare --net --pid)")
     script = [sys.executable, os.path.realpath(sys.argv[0]), *sys.argv[1:]]
-    signal.signal(signal.SIGTERM, lambda number, _frame: sys.exit(128 + number))
+    for number in (signal.SIGTERM, signal.SIGHUP):
+        signal.signal(number, lambda number, _frame: sys.exit(128 + number))
     return run_inside(name, [*words, "sh", "-c", begin, "sh", *script], seconds)
 
 

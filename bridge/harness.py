@@ -4,6 +4,7 @@ import os
 import pathlib
 import re
 import shutil
+import signal
 import socket
 import subprocess
 import threading
@@ -16,6 +17,10 @@ FOLDER = pathlib.Path(__file__).resolve().parent
 SLOW = 12
 # Timers that are no matter of a check don't run out.
 PATIENT = {name: 120 for name in ("answer", "patience", "t3103", "t7", "t8")}
+# Nor is a controller killed that is slow.
+NEVER_HANGS = ("--hang", "120")
+# What has a command killed with who starts it, where that is to be had.
+WITH_PARENT = ("setpriv", "--pdeathsig", "KILL", "--") if shutil.which("setpriv") else ()
 # The site of the checks, and its stations.
 SITE = FOLDER.parent / "examples" / "two_cells.toml"
 FIRST, SECOND = "6969/0/0", "6970/0/1"
@@ -88,9 +93,9 @@ class Bridge:
         self.run([abis, *options, *stations, "--", *core], room)
 
     def run(self, words, room):
-        """Starts it."""
+        """Starts it. It is killed with who tries it, however that ends."""
         self.process = subprocess.Popen(
-            [str(word) for word in words],
+            [*WITH_PARENT, *(str(word) for word in words)],
             cwd=room,
             stdin=subprocess.PIPE,
             stdout=subprocess.PIPE,
@@ -134,10 +139,14 @@ class Bridge:
             raise Unmet(f"the status is {came}, not {status}")
 
     def stop(self):
-        """Stops it, if it is running still."""
+        """Stops it, if it is running still, and its controller, which may hang."""
         if self.process.poll() is None:
+            begun = children(self.process.pid)
             self.process.kill()
             self.process.wait()
+            for group in begun:
+                with contextlib.suppress(ProcessLookupError):
+                    os.killpg(group, signal.SIGKILL)
 
     def last_words(self):
         """What it said last."""

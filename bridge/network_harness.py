@@ -10,7 +10,7 @@ import re
 import time
 
 from centre import TestCentre
-from harness import FOLDER, LIMIT, PATIENT, Bridge, Unmet, must
+from harness import FOLDER, LIMIT, NEVER_HANGS, PATIENT, Bridge, Unmet, must
 from test_gateway import TestGateway
 
 # The units of the two cells.
@@ -124,7 +124,8 @@ class Run(Bridge):
         controller = json.dumps([str(word) for word in core or (program, "live")])
         config = CONFIG.format(controller=controller, timers=lines, **ports, **keys)
         (room / "config.toml").write_text(config)
-        self.run(["env", f"PATH={path or os.environ['PATH']}", FOLDER / "network", room / "config.toml", *words], room)
+        settings = f"PATH={path or os.environ['PATH']}"
+        self.run(["env", settings, FOLDER / "network", room / "config.toml", *NEVER_HANGS, *words], room)
 
     def begin(self):
         """Waits for the centre; the first station, once that is there."""

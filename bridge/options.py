@@ -14,6 +14,7 @@ def add_common(parser):
     parser.add_argument("--log")
     parser.add_argument("--control")
     parser.add_argument("--again", type=int, default=0)
+    parser.add_argument("--hang", type=seconds_of, default=10.0)
     parser.add_argument("--figures")
     parser.add_argument("--figures-every", type=seconds_of, default=10.0)
     parser.add_argument("--messages", action="store_true")

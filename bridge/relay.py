@@ -92,6 +92,7 @@ class Relay:
             self.held += len(line)
         else:
             self.core.send(line + b"\n")
+            self.again.watch.await_answer()
 
     def is_busy(self):
         """Whether the controller has more to read than it should, or will have."""

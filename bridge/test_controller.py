@@ -6,8 +6,9 @@
 PROGRAM is a build of bsc_lab. Each line is given to `PROGRAM live SITE`, and what came of it is noted in FOLDER before it
 is printed; so are the lines themselves, by which a new PROGRAM gets the book that the last one had. FOLDER/plan says, a
 line each, where the controller is killed: `N STAGE`, at line N: `given` (it isn't noted yet), `cut` (half of it is), `noted`
-(nothing is printed), `torn` (half of its first line is), or how many of its lines are printed. What has happened is taken out
-of it. While there is FOLDER/hold it doesn't begin, or go on.
+(nothing is printed), `torn` (half of its first line is), or how many of its lines are printed; or that it is `stopped` once it
+has noted the line, `computes` without end, or waits in a `disk` until somebody opens FOLDER/disk and closes it. What has
+happened is taken out of it. While there is FOLDER/hold it doesn't begin, or go on.
 """
 import os
 import pathlib
@@ -19,6 +20,8 @@ import threading
 import time
 import zlib
 
+# Stages at which it isn't killed.
+HANGING = ("stopped", "computes", "disk")
 REASON = re.compile(rb"standard input:(\d+): (.*\n)")
 
 
@@ -99,11 +102,22 @@ class Controller:
         words = plan.read_text().split("\n")[0].split() if plan.exists() else []
         return words[1] if words and int(words[0]) == number else None
 
-    def kill(self):
+    def kill(self, number=signal.SIGKILL):
         """Is killed, which isn't planned any more."""
         plan = self.folder / "plan"
         plan.write_text("".join(plan.read_text().splitlines(keepends=True)[1:]))
-        os.kill(os.getpid(), signal.SIGKILL)
+        os.kill(os.getpid(), number)
+
+    def hang(self, stage):
+        """Hangs, or waits as for a disk: the system lets it wait so for one that it begins, and that waits for somebody else."""
+        self.kill(signal.SIGSTOP if stage == "stopped" else 0)
+        while stage == "computes":
+            pass
+        if stage == "disk":
+            disk = self.folder / "disk"
+            os.mkfifo(disk)
+            opens = [(os.POSIX_SPAWN_OPEN, 0, disk, os.O_RDONLY, 0)]
+            os.waitpid(os.posix_spawn("/bin/true", ["true"], {}, file_actions=opens), 0)
 
     def note(self, octets):
         """Adds to the journal."""
@@ -127,6 +141,9 @@ class Controller:
         with self.lines.open("ab") as lines:
             lines.write(line + b"\n")
         self.note(noted)
+        if stage in HANGING:
+            self.hang(stage)
+            stage = None
         if stage == "noted":
             self.kill()
         if stage == "torn":

@@ -1,0 +1,91 @@
+"""A watch over the controller while it has lines to answer: whether it goes on with them, waits for a disk, or hangs."""
+import os
+import pathlib
+
+from tell import say
+
+# In so many parts the time is divided in which it may answer nothing; behind each it is looked at. A bridge that itself gets no
+# time looks less often, and so is more patient.
+PARTS = 10
+# States of a process (proc(5)): it waits for a disk, has a processor or waits for one, is stopped.
+DISK, RUNNING, STOPPED = "D", "R", {"T", "t"}
+# Where the words behind its name have its state, its group, and the time that it has had of processors.
+STATE, GROUP, TIMES = 0, 2, slice(11, 13)
+
+
+class Watch:
+    """Kills a controller that hangs: it has lines, answers none, and neither waits for a disk nor for a processor."""
+
+    def __init__(self, bridge, seconds):
+        """`seconds` is how long it may hang."""
+        self.bridge, self.relay, self.times, self.seconds = bridge, bridge.relay, bridge.times, seconds
+        self.begin()
+
+    def begin(self):
+        """A controller begins. Until it has answered something, or goes on over its journal, it may take any time, as to be built,
+        unless it is stopped."""
+        self.begun, self.has_gone_on = self.relay.line, False
+        self.forget()
+
+    def go_on(self):
+        """It goes on over its journal."""
+        self.has_gone_on = True
+
+    def forget(self):
+        """It isn't waited for."""
+        self.times.forget("watch")
+        # how much of an answer was heard; for how many parts no more was; for how many of these it hangs; what it had of processors
+        self.place, self.parts, self.hanging, self.used = None, 0, 0.0, None
+
+    def await_answer(self):
+        """It has a line to answer."""
+        if not self.times.is_set("watch"):
+            self.times.set("watch", self.seconds / PARTS, self.look)
+
+    def look(self):
+        """Looks whether more of an answer was heard, and else at the controller."""
+        relay, place = self.relay, (self.relay.line, self.relay.heard)
+        if relay.is_away or relay.core is None or relay.core.is_last or not relay.given:
+            self.forget()
+            return
+        if place != self.place:
+            self.forget()
+            self.place = place
+        else:
+            self.parts += 1
+            self.hanging += self.hangs()
+        if self.hanging >= PARTS:
+            say(f"the controller answers nothing for {self.seconds:g} seconds, and is killed")
+            self.bridge.kill_core()
+            return
+        if self.parts == PARTS:
+            say(f"the controller answers nothing for {self.seconds:g} seconds: it waits for a disk or a processor, or is beginning")
+        self.await_answer()
+
+    def hangs(self):
+        """For how much of the last part it hangs, from 0 to 1: what it computes counts as far as it had a processor."""
+        states, used = processes(self.bridge.core.pid)
+        before, self.used = self.used if self.used is not None else used, used
+        if DISK in states:
+            return 0
+        if not (self.has_gone_on or self.relay.line > self.begun):
+            return int(states <= STOPPED)
+        if RUNNING in states:
+            return min(1, (used - before) * PARTS / self.seconds)
+        return 1
+
+
+def processes(group):
+    """The states of a group's processes, and how many seconds they had of processors."""
+    states, ticks = set(), 0
+    for path in pathlib.Path("/proc").glob("[0-9]*/stat"):
+        try:
+            # behind the name, in which anything may stand
+            words = path.read_text(errors="replace").rpartition(") ")[2].split()
+        except OSError:
+            # it is gone meanwhile
+            continue
+        if int(words[GROUP]) == group:
+            states.add(words[STATE])
+            ticks += sum(map(int, words[TIMES]))
+    return states, ticks / os.sysconf("SC_CLK_TCK")
