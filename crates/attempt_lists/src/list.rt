@@ -314,8 +314,9 @@ fn list_sides<A: Allocator + Copy, W: Write>(
 /// `Done`, or `Differs` where one differs.
 ///
 /// What is refused there is refused here, by the same line, and nothing else is printed; so is a trace of two controllers
-/// where there is no second site, or where a line of one of them has no mark. `scratch` serves while the sites are read, `alloc` for all else. Once memory was refused
-/// (`NoMemory`), or `out` can't be written to (`Write`), nothing more is printed.
+/// where there is no second site, or where a line of one of them has no mark. `scratch` serves while the sites are read,
+/// `alloc` for all else. Once memory was refused (`NoMemory`), or `out` can't be written to (`Write`), nothing more is
+/// printed.
 pub fn list_run<A: Allocator + Copy, W: Write>(
     alloc: A,
     scratch: Global,

@@ -286,11 +286,11 @@ fn say_ended<E: Write>(
 /// Where an audit is asked for, all settled attempts are taken out of what each controller was asked, at the end, and what
 /// that comes to is printed behind that ([`audit_viewed`]): the answer is `Differs` where something differs then.
 ///
-/// The site's file is read first, then the peer's, then the script's. Where a file isn't there, can't be read, isn't
-/// UTF-8 or has more than [`LONGEST_FILE`] octets, `file` and its path are printed and nothing else, and the answer is
-/// `Refused`; one line on `errors` says why. One says of a script whose last line has no line feed that it may be cut, and one of
-/// each site that it names and isn't run over. Where a site is refused, one line on `errors` says where in its file, and what is allowed there; where a line of the script is,
-/// one says which of its words is wrong, and what may stand there.
+/// The site's file is read first, then the peer's, then the script's. Where a file isn't there, can't be read, isn't UTF-8
+/// or has more than [`LONGEST_FILE`] octets, `file` and its path are printed and nothing else, and the answer is `Refused`;
+/// one line on `errors` says why. One says of a script whose last line has no line feed that it may be cut, and one of each
+/// site that it names and isn't run over. Where a site is refused, one line on `errors` says where in its file, and what is
+/// allowed there; where a line of the script is, one says which of its words is wrong, and what may stand there.
 pub fn run_files<R: Files + AllocGlobal, W: Write, E: Write>(
     rt: &R,
     sites: SitePaths<'_>,
