@@ -38,6 +38,8 @@ class Upgrade:
         self.operator, self.program, self.old = operator, program, old
         self.new = [program, *old[old.index("live") if "live" in old else 1 :]]
         self.is_tried = False
+        # behind which line it goes on, once it does; it has taken the place once it has done another one
+        self.line = None
 
     def tell(self, text):
         """Tells the operator what came of it, and on standard error."""
@@ -98,7 +100,11 @@ class Again:
         try:
             self.resume(int(found[1]))
         except (JournalError, OSError) as error:
-            self.fail(str(error))
+            if self.upgrading:
+                say(f"{self.upgrading.program}: {error}, and is killed")
+                self.bridge.kill_core()
+            else:
+                self.fail(str(error))
         return True
 
     def passes_over(self, line):
@@ -139,7 +145,7 @@ class Again:
         relay = self.relay
         if self.upgrading:
             self.upgrading.tell(f"{self.upgrading.program}: goes on behind line {relay.line}")
-            self.upgrading = None
+            self.upgrading.line = relay.line
         if relay.log:
             relay.log.note("another controller goes on here, which gathers measurements anew")
         relay.is_away, relay.held = False, 0
@@ -169,7 +175,7 @@ class Again:
         self.bridge.close_errors()
         if self.bridge.is_killed:
             self.end("the controller is killed")
-        elif self.upgrading:
+        elif self.is_upgrading():
             self.go_elsewhere(f"it ended with status {status}")
         elif status >= 0 and not (self.has_gone_on or self.relay.line):
             # it can't begin
@@ -220,7 +226,7 @@ class Again:
 
     def goes_on(self):
         """Whether its end isn't the bridge's."""
-        return self.upgrading is not None or self.can_be_again()
+        return self.is_upgrading() or self.can_be_again()
 
     def try_to_start(self):
         """Starts it, if that can be done."""
@@ -247,6 +253,16 @@ class Again:
             self.bridge.finish_core()
 
     # Another program
+
+    def is_upgrading(self):
+        """Whether another program is to go on, and hasn't done a line yet."""
+        if self.upgrading and self.upgrading.line is not None and self.relay.line > self.upgrading.line:
+            self.upgrading = None
+        return self.upgrading is not None
+
+    def is_awaited(self, operator):
+        """Whether an operator is yet to be told what came of another program."""
+        return self.upgrading is not None and self.upgrading.line is None and self.upgrading.operator is operator
 
     def upgrade(self, operator, program):
         """The controller ends behind the lines that it has, and a program is started in its place."""

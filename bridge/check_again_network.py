@@ -127,8 +127,12 @@ def killed_under_load(start, room, program):
         must(station.known.wait(LIMIT), f"{station.unit} isn't acknowledged")
     for station in stations:
         station.begin()
-    chance, count = random.Random(75), 0
+    chance, count, printed = random.Random(75), 0, 0
     while not all(station.done.wait(chance.random()) for station in stations):
+        if len(run.out.lines) == printed:
+            # one that has done nothing yet is let begin
+            continue
+        printed = len(run.out.lines)
         with contextlib.suppress(IndexError, ProcessLookupError):
             os.kill(child(run), signal.SIGKILL)
             count += 1

@@ -6,7 +6,7 @@ import time
 
 import rsl
 from check_again import bridge_with, catch_up, controller, journaled, plan, program_that, remove, settle
-from harness import FIRST, SITE, SLOW, Asker, LeftOut, child, is_kind, must
+from harness import FIRST, LIMIT, SITE, SLOW, Asker, LeftOut, child, is_kind, must
 from watch import processes
 
 # Lines of the shell by which a controller ends as long as there is a file.
@@ -108,11 +108,15 @@ def upgraded_in_a_pause(start, room, program):
     bridge.wait(0)
 
 
+def last_line(bridge):
+    """The number of the last line that the controller has done, which is all that it was given."""
+    catch_up(bridge)
+    return sum(line.startswith(("in ", "line ")) for line in bridge.out.lines)
+
+
 def at_the_next_line(bridge, room, stage):
     """Plans that something happens to the controller at the next line that it is given."""
-    catch_up(bridge)
-    number = 1 + sum(line.startswith(("in ", "line ")) for line in bridge.out.lines)
-    plan(room / "journal", f"{number} {stage}")
+    plan(room / "journal", f"{1 + last_line(bridge)} {stage}")
 
 
 def hangs(start, room, program):
@@ -161,11 +165,12 @@ def waits_for_a_disk(start, room, program):
     station = open_one(bridge)
     at_the_next_line(bridge, room, "disk")
     bridge.ask("clear 1")
-    bridge.said.expect(f"answers nothing for {SLOW} seconds(, and is killed|: it waits for a disk or a processor, .*)$")
-    is_killed = "is killed" in bridge.said.lines[bridge.said.at - 1]
-    if is_killed and "D" not in (states := processes(child(bridge))[0]):
-        raise LeftOut(f"no process is seen to wait for a disk, but {states}")
-    must(not is_killed, "it is killed")
+    end = time.monotonic() + LIMIT
+    while "D" not in (states := processes(child(bridge))[0]):
+        if time.monotonic() > end:
+            raise LeftOut(f"no process is seen to wait for a disk, but {states}")
+        time.sleep(0.1)
+    bridge.said.expect(f"answers nothing for {SLOW} seconds: it waits for a disk or a processor, .*$")
     with (room / "journal" / "disk").open("w"):
         pass
     clear_it(bridge, asks=False)
@@ -205,5 +210,27 @@ def of_another_kind(start, room, program):
     bridge.wait(0)
 
 
+def upgraded_in_vain(start, room, program):
+    """A program that goes on and then ends before it has done a line, or says that it goes on behind another line than the
+    journal's last, takes the controller's place in vain: the old one goes on, and the call."""
+    bridge = journaled(start, room, program, "--control", "control", again=())
+    station = open_one(bridge)
+    operator = Asker(room / "control")
+    dies = program_that(room, "dies", f'#!/bin/sh\necho "resumed after line {last_line(bridge)}: it" >&2\nread line\nexit 5\n')
+    lies = program_that(room, "lies", '#!/bin/sh\necho "resumed after line 99: it" >&2\nread line\n')
+    operator.ask(f"upgrade {dies}\n")
+    operator.expect("^.*dies: goes on behind line [0-9]+$")
+    operator.ask("handover 1 63\n")
+    operator.expect("^refused: upgrade .*dies: it ended with status 5, and the old one goes on$", "^in handover 1 63$")
+    operator.ask(f"upgrade {lies}\n")
+    operator.expect("^refused: upgrade .*lies: it ended with status (-9|0), and the old one goes on$")
+    catch_up(bridge)
+    operator.leave()
+    must(station.is_there, "its station is gone")
+    clear_it(bridge)
+    bridge.process.terminate()
+    bridge.wait(0)
+
+
 CHECKS = [pauses_grow, bounded_pauses, ended_in_a_pause, upgraded_in_a_pause, hangs, hangs_without_journal, waits_for_a_disk]
-CHECKS += [half_a_line, of_another_kind]
+CHECKS += [half_a_line, of_another_kind, upgraded_in_vain]

@@ -100,7 +100,7 @@ class Relay:
 
     def is_awaited(self, operator):
         """Whether something is yet to come of an operator's lines."""
-        if self.again and self.again.upgrading and self.again.upgrading.operator is operator:
+        if self.again.is_awaited(operator):
             return True
         return any(giver is operator for _, giver, *_ in (*self.given, *self.unreadable.values()))
 
