@@ -70,8 +70,57 @@ All of these are used; what is cut may not say any more which channel it is abou
   1..1
   ok 1 - used.txt
 
-A channel is looked for at the controller whose mark the line has.
+A line that names a call is about the channel that the call has then. What is kept of a mobile that comes is about a
+HANDOVER COMMAND to the channel, behind the line.
+
+  $ cat >calls.txt <<'END'
+  > sim
+  > mobile 1 return
+  > open 1 0 0 3
+  > hold 0 0 3 complete
+  > mobile 1 return
+  > handover 1 1
+  > mobile 1 arrive
+  > hold 1 1 3 detection
+  > hold 1 1 3 complete
+  > open 2 1 1 3
+  > #> ..
+  > END
+  $ ./lab run examples/two_cells.toml calls.txt 2>&1 >/dev/null
+  calls.txt:2: nothing comes of it: there is no call 1
+  calls.txt:4: never used: nothing comes of it on 0/0/3
+  calls.txt:7: never used: nothing comes of it on 0/0/3
+  calls.txt:8: never used: nothing comes of it on 1/1/3
+  calls.txt:9: never used: nothing comes of it on 1/1/3
+  $ ./lab test examples/two_cells.toml calls.txt 2>/dev/null
+  1..1
+  not ok 1 - calls.txt
+  # line 2 comes to nothing
+  # line 4 comes to nothing
+  # line 7 comes to nothing
+  # line 8 comes to nothing
+  # line 9 comes to nothing
+  [1]
+  $ cat >came.txt <<'END'
+  > sim
+  > open 1 0 0 3
+  > hold 1 1 3 detection
+  > hold 1 1 3 complete
+  > handover 1 1
+  > let 1 1 3
+  > mobile 1 return
+  > handover 1 0
+  > #> ..
+  > END
+  $ ./lab run examples/two_cells.toml came.txt 2>&1 >/dev/null
+  $ ./lab test examples/two_cells.toml came.txt
+  1..1
+  ok 1 - came.txt
+
+A channel is looked for at the controller whose mark the line has. A mobile may come there from the other one.
 
   $ printf 'sim\n2: hold 0 0 3\n2: open 1 0 0 1\n#> ..\n' >two.txt
   $ ./lab run examples/two_cells.toml two.txt --peer examples/one_cell.toml 2>&1 >/dev/null
   two.txt:2: the site has no channel 0/0/3
+  $ printf 'sim\n2: hold 0 0 1 detection\nopen 1 0 0 3\nhandover 1 64\n#> ..\n' >comes.txt
+  $ ./lab run examples/two_cells.toml comes.txt --peer examples/one_cell.toml 2>&1 >/dev/null

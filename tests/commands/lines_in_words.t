@@ -31,10 +31,30 @@ What can't be read is a line that can't be read, before anything runs, and it is
   bad.txt:2: HEX is one octet or more, each in two hexadecimal digits, or a message in words, found CLEAR
   line 2
   [2]
-  $ refused 'report 1 full=30 n=1:64'
-  bad.txt:2: FIELD is .*, each once, found n=1:64 (re)
+  $ refused 'abis 0 0 channel activation ack tn=3 frame=0'
+  bad.txt:2: HEX is one octet or more, each in two hexadecimal digits, or a message in words, in capitals, found channel
   line 2
   [2]
+  $ refused 'a 1 deadbee'
+  bad.txt:2: HEX is one octet or more, each in two hexadecimal digits, found deadbee
+  line 2
+  [2]
+  $ refused 'report 1 full=64'
+  bad.txt:2: full is 0 to 63, found 64
+  line 2
+  [2]
+  $ refused 'report 1 full=30 qsub=8' | head -n 1
+  bad.txt:2: qsub is 0 to 7, found 8
+  $ refused 'report 1 full=30 times=' | head -n 1
+  bad.txt:2: times is 1 to 255, found nothing
+  $ refused 'report 1 full=30 n=1:64' | head -n 1
+  bad.txt:2: n is CELL:LEVEL, 0 to 255 and 0 to 63, with a comma before each further one, six at most, or -, found 1:64
+  $ refused 'report 1 full=30 n=- full=30' | head -n 1
+  bad.txt:2: full stands twice
+  $ refused 'report 1 full=30 dtx dtx' | head -n 1
+  bad.txt:2: dtx stands twice
+  $ refused 'report 1 full=30 level=3' | head -n 1
+  bad.txt:2: FIELD is .*, each once, found level=3 (re)
   $ refused 'report 1 n=-'
   bad.txt:2: full is missing, as in full=30
   line 2

@@ -1,7 +1,7 @@
 //! The lines of a script that come to nothing.
-use crate::used::is_used;
+use crate::used::{is_used, use_of};
 use bts_model::{Act, Setting};
-use cell_table::SiteFault;
+use cell_table::{Site, SiteFault};
 use channel_fsm::ChanId;
 use ho_procedure::controller::Controller;
 use lab_runs::asked::Unmet;
@@ -46,8 +46,8 @@ enum Kind {
     Setting(Side, Setting),
     /// It may bring messages of simulators.
     Other,
-    /// A setting of a channel that it doesn't name.
-    Unnamed,
+    /// A setting of the channel that a call has.
+    OfCall(Side),
 }
 
 /// A line that gives something: its number, counted from 1, and what.
@@ -63,7 +63,7 @@ fn kind_of<A: Allocator>(item: &Item<A>) -> Kind {
         Given::Input(_) | Given::Ask(_) => Kind::Input,
         Given::Set(setting) => Kind::Setting(item.side, *setting),
         Given::Attach | Given::HangUp(_) => Kind::Other,
-        Given::MobileOf { .. } => Kind::Unnamed,
+        Given::MobileOf { .. } => Kind::OfCall(item.side),
     }
 }
 
@@ -108,16 +108,17 @@ fn lines_of<A: Allocator + Copy>(
     Ok(lines)
 }
 
-/// Whether the site of a controller has a channel.
-fn has<A: Allocator + Copy>(controller: &Controller<Noting<A>, A>, chan: ChanId) -> bool {
-    controller.view().desk().book().site().is_traffic(chan)
+/// The site of a controller.
+fn site_of<A: Allocator + Copy>(controller: &Controller<Noting<A>, A>) -> &Site<A> {
+    controller.view().desk().book().site()
 }
 
-/// What came of the lines of a script that give something, one behind another: how many inputs each gave, and why nothing came
-/// of those that asked in vain.
+/// What came of the lines of a script that give something, one behind another: how many inputs each gave, what each asked of
+/// the mobile of a call, and why nothing came of those that asked in vain.
 #[derive(Drop)]
 struct Hearing<A: Allocator + Copy> {
     inputs: Vec<usize, A>,
+    settings: Vec<(usize, Setting), A>,
     unmet: Vec<(usize, Unmet), A>,
     /// How many lines began.
     begun: usize,
@@ -128,6 +129,7 @@ impl<A: Allocator + Copy> Hearing<A> {
     fn new(alloc: A) -> Hearing<A> {
         Hearing {
             inputs: Vec::new(alloc),
+            settings: Vec::new(alloc),
             unmet: Vec::new(alloc),
             begun: 0,
         }
@@ -138,15 +140,30 @@ impl<A: Allocator + Copy> Hearing<A> {
         self.inputs.get(place).copied().unwrap_or(0)
     }
 
+    /// What it asked of the mobile of a call.
+    fn setting_at(&self, place: usize) -> Option<Setting> {
+        noted_at(&self.settings, place)
+    }
+
     /// Why nothing came of it, where it asked in vain.
     fn unmet_at(&self, place: usize) -> Option<Unmet> {
-        for (at, unmet) in &self.unmet {
-            if *at == place {
-                return Some(*unmet);
-            }
-        }
-        None
+        noted_at(&self.unmet, place)
     }
+
+    /// The place of the line that began last.
+    fn place(&self) -> usize {
+        self.begun.saturating_sub(1)
+    }
+}
+
+/// What was noted of the line of a place.
+fn noted_at<T: Copy>(notes: &[(usize, T)], place: usize) -> Option<T> {
+    for (at, noted) in notes {
+        if *at == place {
+            return Some(*noted);
+        }
+    }
+    None
 }
 
 impl<A: Allocator + Copy> Listener<A> for Hearing<A> {
@@ -157,8 +174,17 @@ impl<A: Allocator + Copy> Listener<A> for Hearing<A> {
     }
 
     fn hear_unmet(&mut self, unmet: Unmet) -> Result<(), LabFault> {
-        let place = self.begun.saturating_sub(1);
+        let place = self.place();
         Ok(self.unmet.push((place, unmet)).map_err(AllocError::from)?)
+    }
+
+    fn hear_set(&mut self, setting: Setting) -> Result<(), LabFault> {
+        let place = self.place();
+        Ok(
+            self.settings
+                .push((place, setting))
+                .map_err(AllocError::from)?,
+        )
     }
 
     fn hear_turn(&mut self, _mark: Mark, turn: &Turn<A>, _book: &Book<A>) -> Result<(), LabFault> {
@@ -187,14 +213,23 @@ impl<A: Allocator + Copy> Listener<A> for Hearing<A> {
     }
 }
 
-/// Whether the site of a side has a channel.
-fn is_there<A: Allocator + Copy>(controllers: &Controllers<A>, side: Side, chan: ChanId) -> bool {
-    match side {
-        Side::First => has(&controllers.first, chan),
+/// The site of a side, where that has a channel.
+fn site_with<A: Allocator + Copy>(
+    controllers: &Controllers<A>,
+    side: Side,
+    chan: ChanId,
+) -> Option<&Site<A>> {
+    let site = match side {
+        Side::First => site_of(&controllers.first),
         Side::Peer => match &controllers.peer {
-            Some(peer) => has(peer, chan),
-            None => false,
+            Some(peer) => site_of(peer),
+            None => return None,
         },
+    };
+    if site.is_traffic(chan) {
+        Some(site)
+    } else {
+        None
     }
 }
 
@@ -217,7 +252,7 @@ fn is_unclear(behind: &[Line]) -> bool {
         match line.kind {
             Kind::Input => return false,
             Kind::Other => return true,
-            Kind::Unnamed => {}
+            Kind::OfCall(_) => {}
             Kind::Setting(_, setting) => {
                 if setting.act == Act::Release {
                     return true;
@@ -248,23 +283,46 @@ impl<A: Allocator + Copy> Search<'_, A> {
         setting: Setting,
         behind: &[Line],
     ) -> Result<(), AllocError> {
-        let chan = chan_of(setting);
-        let is_there = is_there(self.controllers, side, chan);
-        if is_there
-            && (is_unclear(behind) || is_used(self.alloc, self.turns, side, chan, setting.act)?)
-        {
-            return Ok(());
+        if let Some(cause) = self.cause_of(side, setting, behind)? {
+            self.idle.push(Idle {
+                line: number,
+                cause,
+            })?;
         }
-        let cause = if is_there {
-            Cause::Unused(chan)
-        } else {
-            Cause::NoChannel(chan)
-        };
-        self.idle.push(Idle {
-            line: number,
-            cause,
-        })?;
         Ok(())
+    }
+
+    /// Why a setting, behind which these lines stand, comes to nothing, where it does.
+    fn cause_of(
+        &self,
+        side: Side,
+        setting: Setting,
+        behind: &[Line],
+    ) -> Result<Option<Cause>, AllocError> {
+        let chan = chan_of(setting);
+        let Some(site) = site_with(self.controllers, side, chan) else {
+            return Ok(Some(Cause::NoChannel(chan)));
+        };
+        let needed = use_of(site, chan, setting.act);
+        if is_unclear(behind) || is_used(self.alloc, self.turns, side, chan, needed)? {
+            Ok(None)
+        } else {
+            Ok(Some(Cause::Unused(chan)))
+        }
+    }
+
+    /// Looks at a line that asked something of the mobile of a call.
+    fn look_at_call(
+        &mut self,
+        line: Line,
+        side: Side,
+        place: usize,
+        behind: &[Line],
+    ) -> Result<(), AllocError> {
+        match self.heard.setting_at(place) {
+            Some(setting) => self.look_at(line.number, side, setting, behind),
+            None => self.note_unmet(line.number, place),
+        }
     }
 
     /// The inputs that a line gave are passed.
@@ -296,7 +354,8 @@ impl<A: Allocator + Copy> Search<'_, A> {
                 Kind::Setting(side, setting) => {
                     self.look_at(line.number, side, setting, behind)?;
                 }
-                Kind::Input | Kind::Other | Kind::Unnamed => {
+                Kind::OfCall(side) => self.look_at_call(*line, side, place, behind)?,
+                Kind::Input | Kind::Other => {
                     self.pass_inputs(self.heard.inputs_at(place));
                     self.note_unmet(line.number, place)?;
                 }

@@ -1,6 +1,7 @@
 //! What a setting needs to be used.
 use bts_model::{Act, Held};
-use channel_fsm::ChanId;
+use cell_table::Site;
+use channel_fsm::{ChanId, Sub};
 use ho_procedure::exchange::{Inbound, Outbound};
 use lab_runs::turn::{Answer, Source, Turn};
 use lab_script::script::Side;
@@ -10,28 +11,66 @@ use rsl_messages::Rsl;
 use std::alloc::{AllocError, Allocator};
 use trace_text::trace::TraceLine;
 
+/// How a HANDOVER COMMAND names a channel: by the colour of its cell, its carrier, and its timeslot (TS 44.018 clause 9.1.15).
+#[derive(Clone, Copy, Debug, PartialEq, Eq)]
+pub(crate) struct Target {
+    bcch: u16,
+    ncc: u8,
+    bcc: u8,
+    carrier: u16,
+    tn: u8,
+    sub: Sub,
+}
+
+/// How a channel of a site is named.
+fn target_of<A: Allocator + Copy>(site: &Site<A>, chan: ChanId) -> Option<Target> {
+    let ChanId { cell, trx, tn, sub } = chan;
+    Some(Target {
+        bcch: site.bcch(cell)?,
+        ncc: site.ncc(cell)?,
+        bcc: site.bcc(cell)?,
+        carrier: site.arfcn(cell, trx)?,
+        tn,
+        sub,
+    })
+}
+
 /// What the station or the mobile of a channel has to be sent, or has to answer.
 #[derive(Clone, Copy, Debug, PartialEq, Eq)]
-enum Use {
+pub(crate) enum Use {
     /// An activation.
     Activation,
     /// An activation or a release.
     Acknowledged,
     /// A HANDOVER COMMAND to the mobile.
     Command,
+    /// A HANDOVER COMMAND to any mobile that names the channel so.
+    Arrival(Target),
     /// An answer.
     Answer,
     /// An answer, of which so many octets are left: these may not say any more which channel it is about.
     Cut(u8),
 }
 
-/// What a setting needs; nothing where it needs none: what is let go may be nothing.
-fn use_of(act: Act) -> Option<Use> {
+impl Use {
+    /// Whether it may be on any channel, of any controller.
+    fn is_anywhere(self) -> bool {
+        match self {
+            Use::Arrival(_) => true,
+            Use::Activation | Use::Acknowledged | Use::Command | Use::Answer | Use::Cut(_) => false,
+        }
+    }
+}
+
+/// What an act at a channel of a site needs; nothing where it needs none: what is let go may be nothing.
+pub(crate) fn use_of<A: Allocator + Copy>(site: &Site<A>, chan: ChanId, act: Act) -> Option<Use> {
     match act {
         Act::Refuse => Some(Use::Activation),
         Act::Hold(Held::Acknowledgement) => Some(Use::Acknowledged),
-        // what is kept of a mobile that comes isn't seen
-        Act::Hold(Held::Detection | Held::Complete) => None,
+        Act::Hold(Held::Detection | Held::Complete) => {
+            // what is kept of a mobile that comes isn't seen
+            Some(Use::Arrival(target_of(site, chan)?))
+        }
         Act::Mobile(_) => Some(Use::Command),
         Act::Double => Some(Use::Answer),
         Act::Cut(octets) => Some(Use::Cut(octets)),
@@ -39,10 +78,17 @@ fn use_of(act: Act) -> Option<Use> {
     }
 }
 
-/// Whether octets to a mobile are a HANDOVER COMMAND.
-fn is_command(octets: &[u8]) -> bool {
+/// Where octets send a mobile that are a HANDOVER COMMAND.
+fn target_in(octets: &[u8]) -> Option<Target> {
     match decode(octets) {
-        Ok(Rr::HandoverCommand { .. }) => true,
+        Ok(Rr::HandoverCommand { cell, channel, .. }) => Some(Target {
+            bcch: cell.arfcn(),
+            ncc: cell.ncc(),
+            bcc: cell.bcc(),
+            carrier: channel.carrier(),
+            tn: channel.tn(),
+            sub: channel.sub(),
+        }),
         Ok(
             Rr::HandoverComplete(_)
             | Rr::HandoverFailure(_)
@@ -50,7 +96,16 @@ fn is_command(octets: &[u8]) -> bool {
             | Rr::PhysicalInformation(_)
             | Rr::MeasurementReport(_),
         )
-        | Err(_) => false,
+        | Err(_) => None,
+    }
+}
+
+/// Whether octets to a mobile are what is needed.
+fn is_needed_there(octets: &[u8], needed: Use) -> bool {
+    match needed {
+        Use::Command => target_in(octets).is_some(),
+        Use::Arrival(target) => target_in(octets) == Some(target),
+        Use::Activation | Use::Acknowledged | Use::Answer | Use::Cut(_) => false,
     }
 }
 
@@ -59,9 +114,7 @@ fn is_needed<A: Allocator>(message: &Rsl<A>, needed: Use) -> bool {
     match message {
         Rsl::ChannelActivation { .. } => matches!(needed, Use::Activation | Use::Acknowledged),
         Rsl::RfChannelRelease { .. } => needed == Use::Acknowledged,
-        Rsl::DataRequest { layer3, .. } => {
-            needed == Use::Command && is_command(layer3.as_slice())
-        }
+        Rsl::DataRequest { layer3, .. } => is_needed_there(layer3.as_slice(), needed),
         Rsl::DataIndication { .. }
         | Rsl::ChannelActivationAck { .. }
         | Rsl::ChannelActivationNack { .. }
@@ -81,7 +134,8 @@ fn is_use<A: Allocator + Copy>(
 ) -> Result<bool, AllocError> {
     match content_of(alloc, line)? {
         Content::Abis(place, Some(message)) => {
-            Ok(place.chan == Some(chan) && is_needed(&message, needed))
+            let is_there = place.chan == Some(chan) || needed.is_anywhere();
+            Ok(is_there && is_needed(&message, needed))
         }
         Content::Abis(_, None) | Content::Rowless(..) | Content::A(..) | Content::Nothing => {
             Ok(false)
@@ -153,25 +207,28 @@ fn uses<A: Allocator + Copy>(
     needed: Use,
 ) -> Result<bool, AllocError> {
     match needed {
-        Use::Activation | Use::Acknowledged | Use::Command => sends(alloc, turn, chan, needed),
+        Use::Activation | Use::Acknowledged | Use::Command | Use::Arrival(_) => {
+            sends(alloc, turn, chan, needed)
+        }
         Use::Answer => is_answer(alloc, turn, chan),
         Use::Cut(octets) => { Ok(has_octets(turn, chan, octets) || is_answer(alloc, turn, chan)?) }
     }
 }
 
-/// Whether one of these turns, those of a side, uses what is asked of a channel.
+/// Whether one of these turns, those of a side, uses what is asked of a channel; also where that needs nothing.
 pub(crate) fn is_used<A: Allocator + Copy>(
     alloc: A,
     turns: &[Turn<A>],
     side: Side,
     chan: ChanId,
-    act: Act,
+    needed: Option<Use>,
 ) -> Result<bool, AllocError> {
-    let Some(needed) = use_of(act) else {
+    let Some(needed) = needed else {
         return Ok(true);
     };
     for turn in turns {
-        if turn.side == side && uses(alloc, turn, chan, needed)? {
+        let is_there = turn.side == side || needed.is_anywhere();
+        if is_there && uses(alloc, turn, chan, needed)? {
             return Ok(true);
         }
     }

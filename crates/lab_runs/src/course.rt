@@ -140,7 +140,8 @@ impl<A: Allocator + Copy> Course<A> {
         match self.controllers.mobile_channel(side, call)? {
             Ok(chan) => {
                 let setting = Setting::of(side.number(), chan, Act::Mobile(habit));
-                Ok(self.set(setting, waiting)?)
+                self.set(setting, waiting)?;
+                listener.hear_set(setting)
             }
             Err(unmet) => listener.hear_unmet(unmet),
         }

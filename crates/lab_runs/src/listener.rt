@@ -2,6 +2,7 @@
 use crate::asked::Unmet;
 use crate::run::LabFault;
 use crate::turn::{Answer, Turn};
+use bts_model::Setting;
 use cell_table::SiteFault;
 use ho_procedure::exchange::Outbound;
 use radio_book::book::Book;
@@ -21,6 +22,11 @@ pub trait Listener<A: Allocator + Copy> {
 
     /// Why nothing comes of what a line asks its controller's book. Who tells nobody needn't hear it.
     fn hear_unmet(&mut self, _unmet: Unmet) -> Result<(), LabFault> {
+        Ok(())
+    }
+
+    /// What a line asks of the mobile of a call, once it is known on which channel that is. Who tells nobody needn't hear it.
+    fn hear_set(&mut self, _setting: Setting) -> Result<(), LabFault> {
         Ok(())
     }
 

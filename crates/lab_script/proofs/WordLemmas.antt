@@ -3,6 +3,7 @@ use Rattle.std.proofs.Common.{◌≡◌, ◌≢◌, ℕ, ◌<◌, ◌^◌, ◌%�
 use Rattle.std.specs.Char.{is_ascii_digit, is_ascii_hexdigit}
 use Rattle.std.proofs.Math.Seq.{take-length}
 use Rattle.std.specs.List.{list_all, onto_first, position_or_len, before_first, after_first}
+use Rattle.std.specs.Option.{option_or}
 use Rattle.std.specs.Result.{result_ok}
 use Rattle.std.specs.Str.Parse.{digits_value, ParsesUnsigned}
 use Rattle.std.proofs.lemmas.List.Splits.{slice_split-cons_no, slice_split_first}
@@ -100,3 +101,12 @@ cut_slash text None h =
 cut_slash text (Some x) h =
     let within : nat_lt (position_or_len is_slash text) (length text) ≡ true = (Decides-ltb (position_or_len is_slash text) (length text)).1 h.0 in
     rw (within, h.1, h.2) refl
+
+-- of two readings of a text the first, where it says something, else the second
+pub one_said : {T : Type 0} (one other : Option T) → true ≡ is_some one → one ≡ option_or one other
+one_said None other e = absurd (search (rules, e))
+one_said (Some x) other e = refl
+
+pub other_said : {T : Type 0} (one other : Option T) → false ≡ is_some one → other ≡ option_or one other
+other_said None other e = refl
+other_said (Some x) other e = absurd (search (rules, e))

@@ -339,6 +339,7 @@ fn a_in_words<A: Allocator + Copy>(alloc: A, text: &str) -> Result<Option<Octets
 }
 
 /// The octets of the message on Abis that a text says, in hexadecimal or in words; nothing where it says none.
+#[tactic(auto, using(crate::proofs::WordLemmas::one_said, crate::proofs::WordLemmas::other_said))]
 pub(crate) fn abis_octets<A: Allocator + Copy>(
     alloc: A,
     text: &str,
@@ -346,13 +347,15 @@ pub(crate) fn abis_octets<A: Allocator + Copy>(
     ensures value { IfOk result (λ octets. octets ≡ said.abis_octets text.now) }
     ensures memory { IsErr result → is_some (said.abis_octets text.now) ≡ true }
 {
-    match octets(alloc, text)? {
-        Some(octets) => Ok(Some(octets)),
-        None => abis_in_words(alloc, text),
+    if is_octets(text) {
+        octets(alloc, text)
+    } else {
+        abis_in_words(alloc, text)
     }
 }
 
 /// The same of a message on A.
+#[tactic(auto, using(crate::proofs::WordLemmas::one_said, crate::proofs::WordLemmas::other_said))]
 pub(crate) fn a_octets<A: Allocator + Copy>(
     alloc: A,
     text: &str,
@@ -360,8 +363,9 @@ pub(crate) fn a_octets<A: Allocator + Copy>(
     ensures value { IfOk result (λ octets. octets ≡ said.a_octets text.now) }
     ensures memory { IsErr result → is_some (said.a_octets text.now) ≡ true }
 {
-    match octets(alloc, text)? {
-        Some(octets) => Ok(Some(octets)),
-        None => a_in_words(alloc, text),
+    if is_octets(text) {
+        octets(alloc, text)
+    } else {
+        a_in_words(alloc, text)
     }
 }

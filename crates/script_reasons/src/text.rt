@@ -2,6 +2,7 @@
 use crate::reasons::{Fault, Reason};
 use encoded_messages::{MessageFault, a_fault, abis_fault};
 use lab_script::forms::{Form, INPUTS, SETTINGS, Slot};
+use lab_script::report::{FieldsFault, fields_fault};
 use screen_text::Escaped;
 use std::fmt;
 
@@ -37,6 +38,40 @@ const FIELDS: &str =
     "full or sub (0 to 63), qfull or qsub (0 to 7), ta (0 to 63), power (0 to 255), times (1 to 255), each with = \
 behind it, n=CELL:LEVEL, with a comma before each further one, six at most, n=- or dtx, each once";
 
+/// What the value of a field of a report may be; nothing where no field has this key.
+fn allowed_in(key: &str) -> Option<&'static str> {
+    match key {
+        "full" | "sub" | "ta" => Some("0 to 63"),
+        "qfull" | "qsub" => Some("0 to 7"),
+        "power" => Some("0 to 255"),
+        "times" => Some("1 to 255"),
+        "n" => Some(
+            "CELL:LEVEL, 0 to 255 and 0 to 63, with a comma before each further one, six at most, or -",
+        ),
+        _ => None,
+    }
+}
+
+/// What is wrong with a word of a report: its value, or that it stands twice, or that it is no field.
+fn write_field_fault<W: fmt::Write>(
+    f: &mut fmt::Formatter<W>,
+    word: &str,
+    found: Shown<'_>,
+) -> fmt::Result {
+    let (key, value) = word.split_once('=').unwrap_or((word, ""));
+    let Some(FieldsFault::Word(_)) = fields_fault(word) else {
+        return write!(f, "{key} stands twice");
+    };
+    match allowed_in(key) {
+        Some(allowed) => {
+            let word = value;
+            let nothing = "nothing";
+            write!(f, "{key} is {allowed}, found {}", Shown { word, nothing })
+        }
+        None => write!(f, "FIELD is {FIELDS}, found {found}"),
+    }
+}
+
 /// What is wrong with the words of a message, as `encode` says it.
 fn write_message_fault<W: fmt::Write>(
     f: &mut fmt::Formatter<W>,
@@ -66,20 +101,20 @@ fn allowed(slot: Slot) -> &'static str {
     }
 }
 
-/// What else the word of a slot may be, where it looks as if it began that: a message in words begins with a capital.
+/// That a message may stand in words, where a word looks as if it began one: by its capital, or as one without capitals.
+fn in_words(word: &str) -> &'static str {
+    let is_hex = word.bytes().all(|byte| byte.is_ascii_hexdigit());
+    match word.bytes().next() {
+        Some(b'A'..=b'Z') => ", or a message in words",
+        Some(b'a'..=b'z') if !is_hex => ", or a message in words, in capitals",
+        Some(_) | None => "",
+    }
+}
+
+/// What else the word of a slot may be.
 fn or_in_words(slot: Slot, word: &str) -> &'static str {
     match slot {
-        Slot::OnAbis | Slot::OnA => {
-            if word
-                .bytes()
-                .next()
-                .is_some_and(|byte| byte.is_ascii_uppercase())
-            {
-                ", or a message in words"
-            } else {
-                ""
-            }
-        }
+        Slot::OnAbis | Slot::OnA => in_words(word),
         Slot::Call
         | Slot::Cell
         | Slot::Trx
@@ -170,7 +205,7 @@ fn write_reason<W: fmt::Write>(
             allowed(slot),
             or_in_words(slot, word)
         ),
-        Fault::Field => write!(f, "FIELD is {FIELDS}, found {found}"),
+        Fault::Field => write_field_fault(f, word, found),
         Fault::NoLevel => write!(f, "full is missing, as in full=30"),
         Fault::NoNeighbours => write!(f, "n is missing, as in n=1:40, or n=- for none"),
         Fault::OnAbis => write_message_fault(f, abis_fault(word)),
