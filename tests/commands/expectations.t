@@ -125,7 +125,7 @@ Nor is one so in words, as `#>` takes them: with other fields between, in anothe
   > open 1 0 0 3
   > #! out abis 0 0 CHANNEL ACTIVATION mode=00010801 tn=3
   > #! out abis 0 0 CHANNEL ACTIVATION tn=2
-  > #! out abis 0 0 CHANNEL reference=-
+  > #! out abis 0 0 CHANNEL ACTIVATION reference=0
   > handover 1 1
   > #! out abis 0 0 DATA REQUEST; HANDOVER COMMAND carrier=875
   > #! out abis 0 0 DATA REQUEST; HANDOVER COMMAND carrier=871
@@ -158,6 +158,117 @@ It is of all that comes up to the next line: what simulators answer, and at the 
   # expected none that begins with: in abis 0 0 RF CHANNEL RELEASE ACK
   # came: in abis 0 0 0833010b
   [1]
+
+A text that no line can begin with, nor be in words, would never be missed: it isn't met, and standard error says so, too.
+
+  $ cat >script.txt <<'END'
+  > #! out abis
+  > open 1 0 0 3
+  > #! out abs
+  > #! state call 1
+  > #! 1: out
+  > #! in report 1
+  > #! event opens
+  > #! event open 1 -> refused
+  > #! event open 1 0/0/3 -> refuse 5
+  > #! event open 01
+  > #! end calls=0
+  > #! ..
+  > #! out abis 0 CHANNEL ACTIVATION
+  > #! out abis 0 0 CHANEL ACTIVATION
+  > #! out abis 0 0 CHANNEL reference=-
+  > #! out a 1 CHANNEL ACTIVATION
+  > #! out abis 0 0 CHANNEL ACTIVATION timeslot=3
+  > #! out abis 0 0 CHANNEL ACTIVATION ref
+  > #! out abis 0 0 CHANNEL ACTIVATION tn=3 tn=3
+  > #! out abis 0 0 DATA REQUEST; HANDOVER COMAND
+  > #! out abis 0 0 DATA REQUEST; HANDOVER COMM
+  > #! out abis 0 0 DATA REQUEST; HANDOVER COMMAND carier=875
+  > #! out abis 0 0 DATA REQUEST;HANDOVER COMMAND
+  > #! out abis 0 0 0821010B
+  > END
+  $ ./lab test examples/two_cells.toml script.txt 2>errors >said
+  [1]
+  $ head -n 7 said
+  1..1
+  not ok 1 - script.txt
+  # line 1
+  # expected none that begins with: out abis
+  # came: no line stands before it
+  # line 3
+  # expected none that begins with: out abs
+  $ grep -c '^# expected none that begins with: ' said
+  23
+  $ cat errors
+  script.txt:1: never missed: no line stands before it
+  script.txt:3: never missed: no line of a trace begins so
+  script.txt:4: never missed: no line of a trace begins so
+  script.txt:5: never missed: no such controller: one alone has no mark
+  script.txt:6: never missed: no line of a trace begins so
+  script.txt:7: never missed: no line of a trace begins so
+  script.txt:8: never missed: no line of a trace begins so
+  script.txt:9: never missed: no line of a trace begins so
+  script.txt:10: never missed: no line of a trace begins so
+  script.txt:11: never missed: no line of a trace begins so
+  script.txt:12: never missed: no line of a trace begins so
+  script.txt:13: never missed: no line of a trace begins so
+  script.txt:14: never missed: "CHANEL ACTIVATION" is no message of the link
+  script.txt:15: never missed: "CHANNEL" is no message of the link
+  script.txt:16: never missed: "CHANNEL ACTIVATION" is no message of the link
+  script.txt:17: never missed: "timeslot=3" is no field of the message
+  script.txt:18: never missed: "CHANNEL ACTIVATION ref" is no message of the link
+  script.txt:19: never missed: tn stands twice
+  script.txt:20: never missed: "HANDOVER COMAND" is no message of the link
+  script.txt:21: never missed: "HANDOVER COMM" is no message of the link
+  script.txt:22: never missed: "carier=875" is no field of the message
+  script.txt:23: never missed: a blank stands behind ;
+  script.txt:24: never missed: a trace has octets in small letters
+
+What else isn't met stands behind these; a script that can't be read is refused all the same.
+
+  $ printf 'open 1 0 0 3\n#! out a 1\n#! out abis\n#! ot a\n' >script.txt
+  $ ./lab test examples/two_cells.toml script.txt 2>/dev/null
+  1..1
+  not ok 1 - script.txt
+  # line 4
+  # expected none that begins with: ot a
+  # came: no line of a trace begins so
+  # line 3
+  # expected none that begins with: out abis
+  # came: out abis 0 0 0821010b0300060400010801
+  [1]
+  $ sed '1i sim 2' script.txt >unread.txt
+  $ ./lab test examples/two_cells.toml unread.txt 2>errors | tail -n 1
+  # line 1 can't be read
+  $ tail -n 1 errors
+  unread.txt:1: nothing stands behind sim, found 2
+
+A line can begin so: it may end within a word, or a message may be in part.
+
+  $ cat >script.txt <<'END'
+  > seize 1 0 full
+  > #! in ope
+  > #! event t
+  > #! event take 1 internal 1/
+  > #! event open 1 0/0/3 -> refused
+  > #! event look 1 -> own
+  > #! none
+  > #! fault abis 3 26
+  > #! sim limit
+  > #! end channels=0
+  > #! out a
+  > #! out abis 1 0 CHANNEL ACTI
+  > #! out abis 0 0 CHANNEL ACTIVATION tn=7 act
+  > #! out abis 0 0 CHANNEL ACTIVATION reference=7 tn=3
+  > #! out abis 0 0 0820
+  > #! out a 1 HANDOVER REQUIRED; better cell
+  > #! in a 1 CLEAR COMMAND cause=9; call
+  > #! in abis 0 0 ERROR INDICATION; ignored: no row
+  > #! in abis 0 0 MEASUREMENT RESULT; MEASUREMENT REPORT n=20/1/21 n=20/1/21
+  > END
+  $ ./lab test examples/two_cells.toml script.txt
+  1..1
+  ok 1 - script.txt
 
 What the books hold behind a line: timeslots, channels, a call, how many calls and references.
 
@@ -366,6 +477,12 @@ Without a mark `#=` says nothing of two controllers, and isn't met; `#!` is of a
   # came: 2: no trx 0/1
   [1]
 
+  $ printf 'open 1 0 0 3\n#! 1: sim limit\n#! 2: out abs\n#! sim limit\n#! 2: o\n#! 2:\n' >script.txt
+  $ ./lab test examples/two_cells.toml script.txt --peer examples/one_cell.toml 2>&1 >/dev/null
+  script.txt:2: never missed: no line of a trace begins so
+  script.txt:3: never missed: no line of a trace begins so
+  [1]
+
 A script that expects nothing isn't met, nor is one whose comments have slipped: that is told on standard error.
 
   $ printf 'open 1 0 0 3\nclear 1\n' >script.txt
@@ -458,6 +575,14 @@ A script may name its own site, and its peer's, from its own folder on.
   $ cat errors
   town/twice.txt:3: line 1 has named one: a script names one site, and one peer
   town/peers.txt:2: line 1 has named one: a script names one site, and one peer
+  $ printf '#%% site town.toml\n2: open 1 0 0 3\n#= 1: calls 0\n' >town/lone.txt
+  $ ./lab test examples/two_cells.toml town/lone.txt --peer examples/one_cell.toml 2>errors
+  1..1
+  not ok 1 - town/lone.txt
+  # line 2 can't be read
+  [2]
+  $ cat errors
+  town/lone.txt:2: 2: is for a second controller, and the script names none (#% peer PATH)
   $ ./lab test examples/two_cells.toml town/twice.txt --undo-everywhere 2>/dev/null
   not ok 1 - town/twice.txt
   # line 3 can't be read

@@ -7,9 +7,9 @@ use crate::site_files::{SitePaths, SiteTexts, say_reasons};
 use lab_runs::run::LabFault;
 use lab_script::script::{ScriptFault, read_script};
 use screen_text::Escaped;
-use script_reasons::script_reason;
+use script_reasons::{Fault, Reason, script_reason};
 use std::alloc::Global;
-use std::io::Write;
+use std::io::{self, Write};
 
 /// Says where a script has carriage returns that end no line, and that it may be cut, where its last line has no line feed.
 pub(crate) fn say_cut_script<E: Write>(
@@ -29,12 +29,40 @@ pub(crate) fn say_cut_script<E: Write>(
     Ok(())
 }
 
+/// Who names the sites over which a script is run.
+#[derive(Clone, Copy, Debug, PartialEq, Eq)]
+pub(crate) enum Naming {
+    /// Whoever runs it.
+    Given,
+    /// The script itself.
+    InScript,
+}
+
+/// Says why a line of a script can't be read, by what its sites are named by.
+fn say_reason<E: Write>(
+    path: &str,
+    line: usize,
+    reason: Reason<'_>,
+    naming: Naming,
+    errors: &mut E,
+) -> io::Result<()> {
+    let path = Escaped(path);
+    match (reason.fault, naming) {
+        (Fault::NoPeer, Naming::InScript) => writeln!(
+            errors,
+            "{path}:{line}: 2: is for a second controller, and the script names none (#% peer PATH)"
+        ),
+        (_, Naming::Given | Naming::InScript) => writeln!(errors, "{path}:{line}: {reason}"),
+    }
+}
+
 /// Says why the first line of a script that can't be read can't be, if there is one.
 pub(crate) fn say_line<E: Write>(
     alloc: Global,
     path: &str,
     script: &str,
     has_peer: bool,
+    naming: Naming,
     errors: &mut E,
 ) -> Result<(), LabFault> {
     let line = match read_script(alloc, script, has_peer) {
@@ -43,7 +71,7 @@ pub(crate) fn say_line<E: Write>(
         Err(ScriptFault::NoMemory) => return Err(LabFault::NoMemory),
     };
     if let Some(reason) = script_reason(script, line, has_peer) {
-        writeln!(errors, "{}:{line}: {reason}", Escaped(path))?;
+        say_reason(path, line, reason, naming, errors)?;
     }
     Ok(())
 }
@@ -60,5 +88,6 @@ pub(crate) fn say_refusal<E: Write>(
     if say_reasons(alloc, paths, sites, errors)? {
         return Ok(());
     }
-    say_line(alloc, path, script, sites.peer().is_some(), errors)
+    let has_peer = sites.peer().is_some();
+    say_line(alloc, path, script, has_peer, Naming::Given, errors)
 }

@@ -1,7 +1,7 @@
 //! Tests and records of scripts in files.
 use crate::files::text_of;
-use crate::run_reason::{say_cut_script, say_line, say_refusal};
-use crate::script_notes::{say_idle_settings, say_slipped};
+use crate::run_reason::{Naming, say_cut_script, say_line, say_refusal};
+use crate::script_notes::{say_idle_settings, say_never, say_slipped};
 use crate::script_sites::{ScriptSites, fault_of, say_other_sites, sites_of_script};
 use crate::site_files::{SitePaths, SiteTexts, say_reasons, site_texts};
 use expectations::Recording;
@@ -13,7 +13,7 @@ use std::io::{self, Write};
 use std::rt::Files;
 use tested_scripts::recorded::record_run;
 use tested_scripts::tested::{Numbered, test_run};
-use tested_scripts::{Miss, print_miss, print_not_met, print_plan, print_reason};
+use tested_scripts::{Miss, NeverLine, print_miss, print_not_met, print_plan, print_reason};
 use undone_runs::tried::{Trial, try_undos};
 use undone_runs::{Tally, print_tally};
 
@@ -33,11 +33,43 @@ struct GivenSites<'a> {
     texts: SiteTexts,
 }
 
-/// Prints that a script isn't met, since lines of it come to nothing.
-fn print_idle<W: Write>(idle: &[Idle], test: Numbered<'_>, out: &mut W) -> io::Result<()> {
+/// What of a script makes that it isn't met, whatever comes of it.
+#[derive(Drop)]
+struct Flaws<'a> {
+    /// Lines that come to nothing.
+    idle: Vec<Idle>,
+    /// Lines that nothing can miss.
+    never: Vec<NeverLine<'a>>,
+}
+
+/// Prints a line of a script that nothing can miss.
+fn print_never<W: Write>(alloc: Global, never: NeverLine<'_>, out: &mut W) -> Result<(), LabFault> {
+    let NeverLine { line, refused, why } = never;
+    let came = format!(in alloc; "{why}")?;
+    let came = came.as_str();
+    Ok(print_reason(
+        out,
+        Miss::Begins {
+            line,
+            refused,
+            came,
+        },
+    )?)
+}
+
+/// Prints that a script isn't met, since it has flaws.
+fn print_flaws<W: Write>(
+    alloc: Global,
+    flaws: &Flaws<'_>,
+    test: Numbered<'_>,
+    out: &mut W,
+) -> Result<(), LabFault> {
     print_not_met(out, test.number, test.name)?;
-    for setting in idle {
+    for setting in &flaws.idle {
         print_reason(out, Miss::Idle(setting.line))?;
+    }
+    for never in &flaws.never {
+        print_never(alloc, *never, out)?;
     }
     Ok(())
 }
@@ -50,41 +82,59 @@ fn behind_first(printed: &[u8]) -> &[u8] {
     }
 }
 
-/// Tests a script of which lines come to nothing: it isn't met, and these stand before what else isn't.
-fn test_idle<W: Write>(
+/// Tests a script that has flaws: it isn't met, and these stand before what else isn't.
+fn test_flawed<W: Write>(
     alloc: Global,
     sites: &SiteTexts,
     script: &str,
     test: Numbered<'_>,
-    idle: &[Idle],
+    flaws: &Flaws<'_>,
     out: &mut W,
 ) -> Result<Status, LabFault> {
-    print_idle(idle, test, out)?;
+    print_flaws(alloc, flaws, test, out)?;
     let (first, peer) = (sites.first(), sites.peer());
     let mut printed = Vec::new(alloc);
-    test_run(alloc, alloc, first, peer, script, test, &mut printed)?;
+    let status = test_run(alloc, alloc, first, peer, script, test, &mut printed)?;
     out.write_all(behind_first(&printed))?;
-    Ok(Status::Differs)
+    Ok(worse(Status::Differs, status))
+}
+
+/// Tests a script that may have flaws.
+fn test_found<W: Write>(
+    alloc: Global,
+    sites: &SiteTexts,
+    script: &str,
+    test: Numbered<'_>,
+    flaws: &Flaws<'_>,
+    out: &mut W,
+) -> Result<Status, LabFault> {
+    if flaws.idle.is_empty() && flaws.never.is_empty() {
+        let (first, peer) = (sites.first(), sites.peer());
+        test_run(alloc, alloc, first, peer, script, test, out)
+    } else {
+        test_flawed(alloc, sites, script, test, flaws, out)
+    }
 }
 
 /// Tests a script over sites that can be run over.
 fn test_over<W: Write, E: Write>(
     alloc: Global,
     sites: &SiteTexts,
+    naming: Naming,
     script: &str,
     test: Numbered<'_>,
     out: &mut W,
     errors: &mut E,
 ) -> Result<Status, LabFault> {
-    let idle = say_idle_settings(alloc, test.name, sites, script, errors)?;
-    if !idle.is_empty() {
-        return test_idle(alloc, sites, script, test, &idle, out);
-    }
-    let peer = sites.peer();
-    let status = test_run(alloc, alloc, sites.first(), peer, script, test, out)?;
+    let has_peer = sites.peer().is_some();
+    let flaws = Flaws {
+        idle: say_idle_settings(alloc, test.name, sites, script, errors)?,
+        never: say_never(alloc, test.name, script, has_peer, errors)?,
+    };
+    let status = test_found(alloc, sites, script, test, &flaws, out)?;
     if status == Status::Refused {
         // the sites were read before
-        say_line(alloc, test.name, script, peer.is_some(), errors)?;
+        say_line(alloc, test.name, script, has_peer, naming, errors)?;
     }
     Ok(status)
 }
@@ -97,6 +147,7 @@ fn test_file<R: Files + AllocGlobal, W: Write, E: Write>(
     out: &mut W,
     errors: &mut E,
 ) -> Result<Status, LabFault> {
+    let alloc = rt.alloc();
     let Some(script) = text_of(rt, test.name, &mut io::sink(), errors)? else {
         print_miss(out, test.number, test.name, Miss::NoFile)?;
         return Ok(Status::Refused);
@@ -104,8 +155,14 @@ fn test_file<R: Files + AllocGlobal, W: Write, E: Write>(
     say_cut_script(test.name, &script, errors)?;
     say_slipped(test.name, &script, errors)?;
     match sites_of_script(rt, given.paths, test.name, &script, errors)? {
-        ScriptSites::Given => test_over(rt.alloc(), &given.texts, &script, test, out, errors),
-        ScriptSites::Named(texts) => test_over(rt.alloc(), &texts, &script, test, out, errors),
+        ScriptSites::Given => {
+            let naming = Naming::Given;
+            test_over(alloc, &given.texts, naming, &script, test, out, errors)
+        }
+        ScriptSites::Named(texts) => {
+            let naming = Naming::InScript;
+            test_over(alloc, &texts, naming, &script, test, out, errors)
+        }
         ScriptSites::Unreadable(miss) => {
             print_miss(out, test.number, test.name, miss)?;
             Ok(Status::Refused)
@@ -162,6 +219,7 @@ pub fn test_files<R: Files + AllocGlobal, W: Write, E: Write>(
 fn try_over<W: Write, E: Write>(
     alloc: Global,
     sites: &SiteTexts,
+    naming: Naming,
     script: &str,
     name: &str,
     tally: &mut Tally,
@@ -177,7 +235,7 @@ fn try_over<W: Write, E: Write>(
     let status = try_undos(alloc, alloc, trial, tally, out)?;
     if status == Status::Refused {
         // the sites were read before
-        say_line(alloc, name, script, trial.peer.is_some(), errors)?;
+        say_line(alloc, name, script, trial.peer.is_some(), naming, errors)?;
     }
     Ok(status)
 }
@@ -198,8 +256,23 @@ fn try_file<R: Files + AllocGlobal, W: Write, E: Write>(
     };
     say_cut_script(name, &script, errors)?;
     match sites_of_script(rt, given.paths, name, &script, errors)? {
-        ScriptSites::Given => try_over(alloc, &given.texts, &script, name, tally, out, errors),
-        ScriptSites::Named(texts) => try_over(alloc, &texts, &script, name, tally, out, errors),
+        ScriptSites::Given => {
+            let naming = Naming::Given;
+            try_over(
+                alloc,
+                &given.texts,
+                naming,
+                &script,
+                name,
+                tally,
+                out,
+                errors,
+            )
+        }
+        ScriptSites::Named(texts) => {
+            let naming = Naming::InScript;
+            try_over(alloc, &texts, naming, &script, name, tally, out, errors)
+        }
         ScriptSites::Unreadable(miss) => {
             print_miss(out, tally.next(), name, miss)?;
             Ok(Status::Refused)

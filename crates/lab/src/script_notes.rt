@@ -1,5 +1,5 @@
-//! What is said of a script beside what comes of it: comments that look like slipped ones, carriage returns, and settings
-//! that come to nothing.
+//! What is said of a script beside what comes of it: comments that look like slipped ones, or that nothing can miss, carriage
+//! returns, and settings that come to nothing.
 //!
 //! No clause says what the lines hold: that is shown by tests.
 use crate::site_files::SiteTexts;
@@ -11,6 +11,7 @@ use lab_script::script::without_return;
 use screen_text::Escaped;
 use std::alloc::Global;
 use std::io::{self, Write};
+use tested_scripts::{NeverLine, never_lines};
 
 /// What is said of a comment that looks like one which was to say something.
 fn slip_of(line: &str) -> Option<&'static str> {
@@ -95,4 +96,20 @@ pub(crate) fn say_idle_settings<E: Write>(
         say_idle(path, *setting, errors)?;
     }
     Ok(idle)
+}
+
+/// Says which comments of a script say that no line is so where none ever can be, and answers them.
+pub(crate) fn say_never<'a, E: Write>(
+    alloc: Global,
+    path: &str,
+    script: &'a str,
+    has_peer: bool,
+    errors: &mut E,
+) -> Result<Vec<NeverLine<'a>>, LabFault> {
+    let lines = never_lines(alloc, script, has_peer)?;
+    for never in &lines {
+        let NeverLine { line, why, .. } = *never;
+        writeln!(errors, "{}:{line}: never missed: {why}", Escaped(path))?;
+    }
+    Ok(lines)
 }

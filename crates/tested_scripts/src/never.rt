@@ -1,0 +1,228 @@
+//! Expectations that nothing can miss: lines of a script that say that none begins so, where none ever can.
+//!
+//! No clause says which they are: that is shown by tests.
+use crate::lines::is_script_line;
+use crate::never_messages::why_no_message;
+use encoded_messages::MessageFault;
+use expectations::{refused_in, without_mark};
+use lab_script::script::without_return;
+use std::alloc::{AllocError, Allocator, Global};
+use std::fmt;
+
+/// Why no line that comes can be as a text says.
+#[derive(Clone, Copy, Debug, PartialEq, Eq)]
+pub enum Never<'a> {
+    /// The mark of a controller begins it, and there is one alone.
+    Marked,
+    /// No line of a trace begins so.
+    Beginning,
+    /// Its octets have digits that a trace has in small letters.
+    Capitals,
+    /// No message is so in words.
+    Message(MessageFault<'a>),
+    /// In words no blank stands behind a semicolon.
+    Glued,
+    /// No line of the script stands before it of which anything could come.
+    First,
+}
+
+impl fmt::Display for Never<'_> {
+    fn fmt<W: fmt::Write>(&self, f: &mut fmt::Formatter<W>) -> fmt::Result {
+        match self {
+            Never::Marked => write!(f, "no such controller: one alone has no mark"),
+            Never::Beginning => write!(f, "no line of a trace begins so"),
+            Never::Capitals => write!(f, "a trace has octets in small letters"),
+            Never::Message(fault) => write!(f, "{fault}"),
+            Never::Glued => write!(f, "a blank stands behind ;"),
+            Never::First => write!(f, "no line stands before it"),
+        }
+    }
+}
+
+/// A line of a script that says that no line begins with a text, and none ever can.
+#[derive(Clone, Copy, Debug, PartialEq, Eq)]
+pub struct NeverLine<'a> {
+    /// Its number, counted from 1.
+    pub line: usize,
+    /// The text.
+    pub refused: &'a str,
+    pub why: Never<'a>,
+}
+
+/// The lines of a trace behind their marks, word by word. `N` stands for a number, `C` for a channel, and `..` for any words.
+const LINES: &[&str] = &[
+    "in open N N N C",
+    "in seize N N full",
+    "in seize N N half",
+    "in handover N N",
+    "in undo N",
+    "in clear N",
+    "in expire N T3103",
+    "in expire N T7",
+    "in expire N T8",
+    "in abis N N ..",
+    "in a N ..",
+    "event open N C -> ..",
+    "event clear N -> ..",
+    "event look N -> ..",
+    "event take N internal C -> ..",
+    "event take N incoming C -> ..",
+    "event reserve N N -> ..",
+    "event activate N -> ..",
+    "event command N -> ..",
+    "event complete N -> ..",
+    "event undo N asked -> ..",
+    "event undo N t3103 -> ..",
+    "event undo N t7 -> ..",
+    "event undo N t8 -> ..",
+    "event require N -> ..",
+    "event order N -> ..",
+    "event left N -> ..",
+    "event confirm C -> ..",
+    "event refuse C -> ..",
+    "event detect C -> ..",
+    "event released C -> ..",
+    "event owner C -> ..",
+    "none free N",
+    "out abis N N ..",
+    "out a N ..",
+    "fault abis N N",
+    "fault a N N",
+    "fault rr N N",
+    "end channels=N calls=N references=N timers=N",
+];
+
+/// The line of a trace that has no mark, also of two controllers.
+const LIMIT: &str = "sim limit";
+
+/// What may stand behind the arrow of an event.
+const REPLIES: &[&str] = &["done", "owned N", "record ..", "refused N .."];
+
+/// Whether a text has decimal digits alone, and no zero in front of another. There may be none where it is cut.
+fn is_number(text: &str, is_cut: bool) -> bool {
+    text.bytes().all(|byte| byte.is_ascii_digit())
+        && (is_cut || !text.is_empty())
+        && (text.len() < 2 || !text.starts_with("0"))
+}
+
+/// Whether a text has the digits and slashes of a channel. There may be none where it is cut.
+fn is_channel(text: &str, is_cut: bool) -> bool {
+    text.bytes()
+        .all(|byte| byte.is_ascii_digit() || byte == b'/')
+        && (is_cut || !text.is_empty())
+}
+
+/// What stands behind the front of a word, where a form's word has that front; nothing of it where the word is cut within.
+fn behind_front<'a>(word: &'a str, front: &str, is_cut: bool) -> Option<&'a str> {
+    match word.strip_prefix(front) {
+        Some(rest) => Some(rest),
+        None if is_cut && front.starts_with(word) => Some(""),
+        None => None,
+    }
+}
+
+/// Whether a word is one that a form has in this place. It may be cut where it is the last of its text.
+fn is_word_of(word: &str, form: &str, is_cut: bool) -> bool {
+    if form == ".." {
+        return true;
+    }
+    if let Some(front) = form.strip_suffix("N") {
+        return behind_front(word, front, is_cut).is_some_and(|rest| is_number(rest, is_cut));
+    }
+    if let Some(front) = form.strip_suffix("C") {
+        return behind_front(word, front, is_cut).is_some_and(|rest| is_channel(rest, is_cut));
+    }
+    behind_front(word, form, is_cut).is_some_and(|rest| rest.is_empty())
+}
+
+/// Whether a line of this form can begin with a text.
+fn can_begin(text: &str, form: &str) -> bool {
+    let count = text.split(' ').count();
+    let last = count.saturating_sub(1);
+    (count <= form.split(' ').count() || form.ends_with(".."))
+        && text.split(' ').zip(form.split(' ')).enumerate().all(|(place, (word, other))| is_word_of(
+            word,
+            other,
+            place == last,
+        ))
+}
+
+/// Whether what stands behind the arrow of an event, if there is one, is a reply or begins one.
+fn can_reply(text: &str) -> bool {
+    match text.split_once(" -> ") {
+        Some((_, reply)) => REPLIES.iter().any(|form| can_begin(reply, *form)),
+        None => true,
+    }
+}
+
+/// Whether a line of a controller can begin with a text, its message left aside.
+fn can_be_line(text: &str) -> bool {
+    can_reply(text) && LINES.iter().any(|form| can_begin(text, *form))
+}
+
+/// Whether a text begins with the mark of a controller, or with a part of one.
+fn is_marked(text: &str) -> bool {
+    without_mark(text) != text
+        || (!text.is_empty() && ("1: ".starts_with(text) || "2: ".starts_with(text)))
+}
+
+/// Why no line that comes of one controller, or of two, can be as a text says; nothing where one can.
+fn why_never<A: Allocator + Copy>(
+    alloc: A,
+    text: &str,
+    has_peer: bool,
+) -> Result<Option<Never<'_>>, AllocError> {
+    let is_marked = is_marked(text);
+    if is_marked && !has_peer {
+        return Ok(Some(Never::Marked));
+    }
+    let line = without_mark(text);
+    if (is_marked && line == text) || (!is_marked && can_begin(text, LIMIT)) {
+        return Ok(None);
+    }
+    if !can_be_line(line) {
+        return Ok(Some(Never::Beginning));
+    }
+    why_no_message(alloc, line)
+}
+
+/// The place of the first line of a script that gives something; that of its first line, where none does.
+fn first_place(script: &str) -> usize {
+    script
+        .split('\n')
+        .position(|line| is_script_line(without_return(line)))
+        .unwrap_or(0)
+}
+
+/// The same of a text that a line of the script has: nothing comes before the first line that gives something.
+fn why_never_at<A: Allocator + Copy>(
+    alloc: A,
+    text: &str,
+    has_peer: bool,
+    is_before: bool,
+) -> Result<Option<Never<'_>>, AllocError> {
+    if is_before {
+        return Ok(Some(Never::First));
+    }
+    why_never(alloc, text, has_peer)
+}
+
+/// The lines of a script, for one controller or two, that say that no line begins with a text, and none ever can: so a test
+/// could never miss them. Each has its reason.
+pub fn never_lines<'a, A: Allocator + Copy>(
+    alloc: A,
+    script: &'a str,
+    has_peer: bool,
+) -> Result<Vec<NeverLine<'a>, A>, AllocError> {
+    let mut found = Vec::new(alloc);
+    let first = first_place(script);
+    for (place, line) in script.split('\n').enumerate() {
+        if let Some(refused) = refused_in(without_return(line))
+            && let Some(why) = why_never_at(alloc, refused, has_peer, place < first)?
+        {
+            let line = place.saturating_add(1);
+            found.push(NeverLine { line, refused, why })?;
+        }
+    }
+    Ok(found)
+}

@@ -1,0 +1,294 @@
+//! Messages in words that no line of a trace can have.
+use crate::never::Never;
+use encoded_messages::{
+    A_FORMS, ABIS_FORMS, Allowed, FieldFault, MessageFault, MessageForm, RR_FORMS, name_and_fields,
+    value,
+};
+use explanations::{LinkName, cause_name};
+use ho_procedure::exchange::Inbound;
+use line_words::{Content, content_of};
+use octet_elements::Octets;
+use std::alloc::{AllocError, Allocator};
+use trace_text::trace::TraceLine;
+
+/// Whether a word is a field of a message of this form.
+fn is_field(form: MessageForm<'static>, word: &str) -> bool {
+    match word.split_once('=') {
+        Some((key, _)) => form.fields.iter().any(|field| field.0 == key),
+        None => false,
+    }
+}
+
+/// The field of a message of this form that a text has twice, though it stands in a message once.
+fn twice_in(form: MessageForm<'static>, fields: &str) -> Option<FieldFault<'static>> {
+    for field in form.fields {
+        if field.1 != Allowed::Neighbour
+            && let Err(FieldFault::Twice(key)) = value(fields, field.0)
+        {
+            return Some(FieldFault::Twice(key));
+        }
+    }
+    None
+}
+
+/// The key of the field in a place of a message of this form. Behind the last there are further neighbours of a report.
+fn key_at(form: MessageForm<'static>, place: usize) -> Option<&'static str> {
+    match (form.fields.get(place), form.fields.last()) {
+        (Some(field), _) => Some(field.0),
+        (None, Some(last)) if last.1 == Allowed::Neighbour => Some(last.0),
+        (None, _) => None,
+    }
+}
+
+/// Whether a word is the field with this key, or begins it, where it is the last of its text.
+fn begins_field(word: &str, key: &str, is_last: bool) -> bool {
+    match word.split_once('=') {
+        Some((found, _)) => found == key,
+        None => is_last && key.starts_with(word),
+    }
+}
+
+/// Whether the fields of a message of this form, as it is printed, can begin with a text.
+fn begin_fields(form: MessageForm<'static>, fields: &str) -> bool {
+    let last = fields.split(' ').count().saturating_sub(1);
+    fields.split(' ').enumerate().all(|(place, word)| key_at(form, place).is_some_and(
+        |key| begins_field(word, key, place == last),
+    ))
+}
+
+/// Whether a message of this form, as it is printed, can begin with a text.
+fn can_begin(form: MessageForm<'static>, part: &str) -> bool {
+    match part.strip_prefix(form.name) {
+        Some(rest) => rest
+            .strip_prefix(" ")
+            .is_some_and(|fields| begin_fields(form, fields)),
+        None => form.name.starts_with(part),
+    }
+}
+
+/// The form of this name.
+fn form_named(forms: &[MessageForm<'static>], name: &str) -> Option<MessageForm<'static>> {
+    forms.iter().find(|form| form.name == name).copied()
+}
+
+/// What is wrong with the fields of a message of this form.
+fn fields_fault<'a>(form: MessageForm<'static>, fields: &'a str) -> Option<FieldFault<'a>> {
+    if fields.is_empty() {
+        return None;
+    }
+    match fields.split(' ').find(|word| !is_field(form, *word)) {
+        Some(word) => Some(FieldFault::Unknown(word)),
+        None => twice_in(form, fields),
+    }
+}
+
+/// What is wrong with a part in words that is to be one of these messages.
+fn part_fault<'a>(
+    forms: &[MessageForm<'static>],
+    part: &'a str,
+    may_be_cut: bool,
+) -> Option<MessageFault<'a>> {
+    let (name, fields) = name_and_fields(part);
+    match form_named(forms, name) {
+        Some(form) if may_be_cut && begin_fields(form, fields) => None,
+        Some(form) => fields_fault(form, fields).map(|fault| MessageFault::Field(fault)),
+        None if may_be_cut && forms.iter().any(|form| can_begin(*form, part)) => None,
+        None => Some(MessageFault::Name(name)),
+    }
+}
+
+/// Whether a part is one of these names; or begins it, where it may be cut.
+fn is_named(part: &str, name: &str, may_be_cut: bool) -> bool {
+    part == name || (may_be_cut && name.starts_with(part))
+}
+
+/// The discriminators of the messages on Abis (TS 48.058 clause 9.1).
+const DISCRIMINATORS: [u8; 4] = [0x02, 0x08, 0x0C, 0x10];
+
+/// Whether a part is the name of a message on Abis that controllers don't read, of these two octets.
+fn is_rowless<A: Allocator + Copy>(
+    alloc: A,
+    part: &str,
+    octets: [u8; 2],
+    may_be_cut: bool,
+) -> Result<bool, AllocError> {
+    let input = Inbound::Abis {
+        cell: 0,
+        trx: 0,
+        bytes: Octets::new(alloc, &octets)?,
+    };
+    match content_of(alloc, &TraceLine::Input(&input))? {
+        Content::Rowless(_, name) => Ok(is_named(part, name, may_be_cut)),
+        Content::Abis(..) | Content::A(..) | Content::Nothing => Ok(false),
+    }
+}
+
+/// The same with this discriminator, of any type.
+fn is_any_rowless<A: Allocator + Copy>(
+    alloc: A,
+    part: &str,
+    discriminator: u8,
+    may_be_cut: bool,
+) -> Result<bool, AllocError> {
+    for message_type in 0..=u8::MAX {
+        if is_rowless(alloc, part, [discriminator, message_type], may_be_cut)? {
+            return Ok(true);
+        }
+    }
+    Ok(false)
+}
+
+/// Whether a part is the name of a message on Abis that controllers don't read.
+fn are_rowless<A: Allocator + Copy>(
+    alloc: A,
+    part: &str,
+    may_be_cut: bool,
+) -> Result<bool, AllocError> {
+    for discriminator in DISCRIMINATORS {
+        if is_any_rowless(alloc, part, discriminator, may_be_cut)? {
+            return Ok(true);
+        }
+    }
+    Ok(false)
+}
+
+/// What is said of a message on Abis that controllers don't read.
+const NO_ROW: &str = "ignored: no row";
+
+/// Whether a part is the name of a cause, or what is said of a message that controllers don't read.
+fn is_said(part: &str, may_be_cut: bool) -> bool {
+    is_named(part, NO_ROW, may_be_cut)
+        || (0..=u8::MAX).any(|cause| {
+            is_named(part, cause_name(LinkName::Abis, cause), may_be_cut)
+                || is_named(part, cause_name(LinkName::A, cause), may_be_cut)
+                || is_named(part, cause_name(LinkName::Rr, cause), may_be_cut)
+        })
+}
+
+/// What is wrong with a part behind the first: a blank stands before the message inside, or what is said.
+fn inner_fault<'a>(part: &'a str, may_be_cut: bool) -> Option<Never<'a>> {
+    match part.strip_prefix(" ") {
+        Some(words) if is_said(words, may_be_cut) => None,
+        Some(words) => part_fault(RR_FORMS, words, may_be_cut).map(|fault| Never::Message(fault)),
+        None if may_be_cut && part.is_empty() => None,
+        None => Some(Never::Glued),
+    }
+}
+
+/// The messages of a link.
+fn forms_of(link: LinkName) -> &'static [MessageForm<'static>] {
+    match link {
+        LinkName::Abis => ABIS_FORMS,
+        LinkName::A => A_FORMS,
+        LinkName::Rr => RR_FORMS,
+    }
+}
+
+/// What is wrong with the first part, which may be cut where nothing stands behind it.
+fn outer_fault<'a, A: Allocator + Copy>(
+    alloc: A,
+    link: LinkName,
+    part: &'a str,
+    may_be_cut: bool,
+) -> Result<Option<Never<'a>>, AllocError> {
+    let Some(fault) = part_fault(forms_of(link), part, may_be_cut) else {
+        return Ok(None);
+    };
+    if link == LinkName::Abis && are_rowless(alloc, part, may_be_cut)? {
+        return Ok(None);
+    }
+    Ok(Some(Never::Message(fault)))
+}
+
+/// Whether a part has all fields of its message: then a line can go on with the next.
+fn is_whole(link: LinkName, part: &str) -> bool {
+    let (name, fields) = name_and_fields(part);
+    match form_named(forms_of(link), name) {
+        Some(form) if fields.is_empty() => form.fields.is_empty(),
+        Some(form) => form.fields.len() <= fields.split(' ').count(),
+        None => true,
+    }
+}
+
+/// What is wrong with the parts behind the first.
+fn inners_fault<'a>(parts: &'a str, is_whole: bool) -> Option<Never<'a>> {
+    let last = parts.split(';').count().saturating_sub(1);
+    for (place, part) in parts.split(';').enumerate() {
+        if let Some(fault) = inner_fault(part, is_whole && place == last) {
+            return Some(fault);
+        }
+    }
+    None
+}
+
+/// What is wrong with a message of a link in words, of which a line has some or with which it begins.
+fn words_fault<'a, A: Allocator + Copy>(
+    alloc: A,
+    link: LinkName,
+    words: &'a str,
+) -> Result<Option<Never<'a>>, AllocError> {
+    let Some((first, others)) = words.split_once(';') else {
+        return outer_fault(alloc, link, words, true);
+    };
+    match outer_fault(alloc, link, first, false)? {
+        None => Ok(inners_fault(others, is_whole(link, first))),
+        fault => Ok(fault),
+    }
+}
+
+/// The link of a line that comes or is sent, and what stands behind its place.
+fn message_in(line: &str) -> Option<(LinkName, &str)> {
+    let (_, rest) = line.split_once(' ')?;
+    let (link, rest) = rest.split_once(' ')?;
+    let (_, rest) = rest.split_once(' ')?;
+    match link {
+        "abis" => {
+            let (_, rest) = rest.split_once(' ')?;
+            Some((LinkName::Abis, rest))
+        }
+        "a" => Some((LinkName::A, rest)),
+        _ => None,
+    }
+}
+
+/// Whether a line is that of a message.
+fn is_message(line: &str) -> bool {
+    line.starts_with("in ") || line.starts_with("out ")
+}
+
+/// Whether a text has hexadecimal digits alone, as a trace has them.
+fn is_hex(text: &str) -> bool {
+    text.bytes().all(|byte| byte.is_ascii_digit() || (b'a' <= byte && byte <= b'f'))
+}
+
+/// Whether a text has hexadecimal digits alone, in either case.
+fn is_any_hex(text: &str) -> bool {
+    text.bytes().all(|byte| byte.is_ascii_hexdigit())
+}
+
+/// Why no line of a link can have what stands behind its place, which isn't octets as a trace has them.
+fn why_not_said<'a, A: Allocator + Copy>(
+    alloc: A,
+    link: LinkName,
+    words: &'a str,
+) -> Result<Option<Never<'a>>, AllocError> {
+    match words_fault(alloc, link, words)? {
+        Some(_) if is_any_hex(words) => Ok(Some(Never::Capitals)),
+        fault => Ok(fault),
+    }
+}
+
+/// Why no line can have the message of this one, which begins as one of a trace does, without its mark; nothing where none stands
+/// there yet, or such a message can come.
+pub(crate) fn why_no_message<'a, A: Allocator + Copy>(
+    alloc: A,
+    line: &'a str,
+) -> Result<Option<Never<'a>>, AllocError> {
+    if !is_message(line) {
+        return Ok(None);
+    }
+    match message_in(line) {
+        Some((link, words)) if !is_hex(words) => why_not_said(alloc, link, words),
+        Some(_) | None => Ok(None),
+    }
+}
