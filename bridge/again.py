@@ -22,8 +22,10 @@ PERIOD, LONGEST = 60.0, 120.0
 # After which time is looked again whether it is gone.
 SOON = 0.02
 # One that ended though it had done nothing since it was started is started again behind a pause: not the first time, then behind
-# the first of these, and each time behind twice as long a one, up to the second. One that ran for that long hasn't ended at once.
+# the first of these, and each time behind twice as long a one, up to the second.
 PAUSE, LONGEST_PAUSE = 0.1, 10.0
+# One that ran for so long hasn't been started in vain, though it had nothing to do.
+LASTING = 60.0
 # How many lines it may print before it goes on, which answer nothing.
 MOST_EARLY = 1000
 # What it says once it goes on.
@@ -187,11 +189,12 @@ class Again:
         """It has ended by itself, or can't be started, and is started again, unless that was too often."""
         now = time.monotonic()
         self.ended_at = [*(it for it in self.ended_at if it > now - PERIOD), now]
-        if len(self.ended_at) > self.most:
-            say(why)
-            self.fail(f"the controller has ended {len(self.ended_at)} times in {PERIOD:g} seconds")
-            return
         pause = self.pause(now)
+        if len(self.ended_at) > self.most or self.vain > self.most:
+            say(why)
+            often = f"{len(self.ended_at)} times in {PERIOD:g} seconds"
+            self.fail(f"the controller has ended {often}, {self.vain} times in a row having done nothing")
+            return
         say(f"{why}, and is started again" + (f" in {pause:g} seconds" if pause else ""))
         self.count += 1
         if pause:
@@ -201,10 +204,12 @@ class Again:
 
     def pause(self, now):
         """How long is waited until it is started again. A bridge that ends doesn't wait."""
-        if self.relay.line > self.begun or now - self.begun_at > LONGEST_PAUSE:
+        if self.relay.line > self.begun or now - self.begun_at > LASTING:
             self.vain = 0
         self.vain += 1
-        return 0 if self.vain == 1 or self.bridge.is_ending else min(PAUSE * 2 ** (self.vain - 2), LONGEST_PAUSE)
+        if self.vain == 1 or self.bridge.is_ending:
+            return 0
+        return min(PAUSE * 2.0 ** min(self.vain - 2, 100), LONGEST_PAUSE)
 
     def is_paused(self):
         """Whether it waits to be started again."""

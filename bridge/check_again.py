@@ -213,7 +213,7 @@ def dies_each_time(start, room, program):
     bridge = journaled(start, room, program, again=("--again", "3"), first=first)
     station = bridge.station(FIRST)
     bridge.ask("open 1 0 0 3")
-    bridge.said.expect("ends: the controller has ended 4 times in 60 seconds$")
+    bridge.said.expect("ends: the controller has ended 4 times in 60 seconds, ")
     bridge.wait(3)
     must(station.await_end(), "the station's link stays")
     ended = [line for line in bridge.said.lines if "has ended with status" in line]
@@ -301,7 +301,7 @@ def full_disk(start, room, program):
         bridge.expect("record 0/0/3 on$")
         disk.fill()
         bridge.ask("\n".join([NOTHING] * FILLING))
-        bridge.said.expect("ends: the controller has ended 4 times in 60 seconds$")
+        bridge.said.expect("ends: the controller has ended 4 times in 60 seconds, ")
         bridge.wait(2)
         disk.empty()
         bridge = start(*OFTEN, core=core, abis=disk.program("abis", FOLDER / "abis"))

@@ -62,8 +62,19 @@ def bounded_pauses(start, room, program):
     bridge.said.expect(f"has ended with status -9 .*{AGAIN}$")
     for seconds in ("0.1", "0.2", "0.4"):
         bridge.said.expect(f"can't be started: .*{AGAIN} in {seconds} seconds$")
-    bridge.said.expect("ends: the controller has ended 5 times in 60 seconds$")
+    bridge.said.expect("ends: the controller has ended 5 times in 60 seconds, 5 times in a row having done nothing$")
     bridge.wait(1)
+
+
+def slowly_in_vain(start, room, program):
+    """A controller that does nothing, as often as it is started, however long that takes, is given up as well."""
+    slow = bridge_with(room, "again.PERIOD", "0.0")
+    bridge = journaled(start, room, program, again=("--again", "3"), first=TROUBLED, abis=slow)
+    open_one(bridge)
+    (room / "trouble").touch()
+    os.killpg(child(bridge), signal.SIGKILL)
+    bridge.said.expect("ends: the controller has ended 1 times in 0 seconds, 4 times in a row having done nothing$")
+    bridge.wait(3)
 
 
 def paused(start, room, program, *options):
@@ -232,5 +243,5 @@ def upgraded_in_vain(start, room, program):
     bridge.wait(0)
 
 
-CHECKS = [pauses_grow, bounded_pauses, ended_in_a_pause, upgraded_in_a_pause, hangs, hangs_without_journal, waits_for_a_disk]
-CHECKS += [half_a_line, of_another_kind, upgraded_in_vain]
+CHECKS = [pauses_grow, bounded_pauses, slowly_in_vain, ended_in_a_pause, upgraded_in_a_pause, upgraded_in_vain, of_another_kind]
+CHECKS += [hangs, hangs_without_journal, waits_for_a_disk, half_a_line]
