@@ -74,10 +74,12 @@ def last_noted(folder):
     return max(number for number, _ in records_of(f"{folder}/{files[-1]}")) if files else 0
 
 
-def look_at_files(folder, lines):
-    """All lines stand in the files, once."""
-    given, number = [], 0
-    for name in files_of(folder):
+def look_at_files(folder, lines, some_went=False):
+    """All lines stand in the files, once; those of files that went are gone."""
+    names = files_of(folder)
+    number = int(names[0].removesuffix(".journal")) if some_went else 0
+    given = lines[:number]
+    for name in names:
         records = list(records_of(f"{folder}/{name}"))
         if records[0][0] != number or f"{number:020}.journal" != name:
             raise Unmet(f"{name} begins with record {records[0][0]}, behind {number}")

@@ -84,6 +84,22 @@ A record that was cut at the end is dropped.
   $ ./lab live examples/two_cells.toml --journal m </dev/null 2>&1 >/dev/null
   resumed after line 4: channels=1 calls=1
 
+So it is where the file had grown and what was written hadn't come: zeros stand at the end, behind whole records or one that was
+cut. What stands behind zeros makes them damage.
+
+  $ cp -r k m0; truncate -s +9999 m0/*.journal
+  $ cp -r k m3; truncate -s -3 m3/*.journal; truncate -s +4 m3/*.journal
+  $ cp -r m0 mx; echo >>mx/00000000000000000000.journal
+  $ ./lab audit examples/two_cells.toml m0/*.journal | tail -1
+  same
+  $ for folder in m0 m3 mx m0; do ./lab live examples/two_cells.toml --journal $folder </dev/null 2>&1 >/dev/null; done
+  m0/00000000000000000000.journal: the record behind line 5 was cut, and is dropped
+  resumed after line 5: channels=1 calls=1
+  m3/00000000000000000000.journal: the record behind line 4 was cut, and is dropped
+  resumed after line 4: channels=1 calls=1
+  mx/00000000000000000000.journal: record 6 is damaged
+  resumed after line 5: channels=1 calls=1
+
 Refused are a damaged record, another site, another version, what is no journal, and a file under another name; and nothing is
 changed.
 
@@ -108,6 +124,29 @@ changed.
   $ ./lab live examples/two_cells.toml --journal u </dev/null
   u/00000000000000000007.journal: the head of the journal has another number than the file's name
   [2]
+
+Refused are a newest file that is empty, or can't be read, and a folder without a name.
+
+  $ cp -r k v; touch v/00000000000000000009.journal; cp -r k w; mkdir w/00000000000000000009.journal
+  $ ./lab live examples/two_cells.toml --journal v </dev/null
+  v/00000000000000000009.journal: the file is no journal
+  [2]
+  $ ./lab live examples/two_cells.toml --journal w </dev/null
+  w/00000000000000000009.journal: is a folder
+  [2]
+  $ ls /lock; ./lab live examples/two_cells.toml --journal '' </dev/null; ls /lock
+  ls: cannot access '/lock': No such file or directory
+  : no such file
+  ls: cannot access '/lock': No such file or directory
+  [2]
+
+Nothing is written through a link that somebody else made.
+
+  $ cp -r k x; echo mine >other; ln -s $PWD/other x/begun.tmp
+  $ ./lab live examples/two_cells.toml --journal x </dev/null 2>&1 >/dev/null
+  resumed after line 5: channels=1 calls=1
+  $ cat other; find x -type l
+  mine
 
 Files that aren't the journal's are left alone.
 
@@ -177,6 +216,41 @@ With a short history files are begun, each with the events that lead to its book
   r: no file has the line that was heard
   [2]
   $ ./lab live examples/two_cells.toml --history 3 <lines | cmp - plain
+
+A file has no more lines than a history has entries, also where the lines ask nothing of the book, or one controller after the other
+ends before its history is long.
+
+  $ for n in 1 2 3 4 5; do printf 'frob\nclear 1\n' | ./lab live examples/two_cells.toml --journal aa --history 3 >/dev/null 2>&1; done
+  $ ls aa
+  00000000000000000000.journal
+  00000000000000000003.journal
+  00000000000000000006.journal
+  00000000000000000009.journal
+  lock
+  $ yes | head -7 | ./lab live examples/two_cells.toml --journal bb --history 3 --keep 1 >/dev/null 2>&1
+  $ ls bb
+  00000000000000000006.journal
+  lock
+
+Where lines are missing between files that isn't passed over in silence.
+
+  $ cp -r q y; rm y/00000000000000000002.journal
+  $ ./lab live examples/two_cells.toml --journal y --heard 1 </dev/null 2>&1
+  resumed after line 5: channels=1 calls=1
+  y/00000000000000000000.journal: no file has the lines behind its last record
+  [2]
+
+An old file that somebody removed hinders none.
+
+  $ mkfifo in2; ./lab live examples/two_cells.toml --journal cc --history 1 --keep 2 <in2 >said & exec 3>in2
+  $ for n in 1 2 3 4 5 6; do
+  >   echo clear $n >&3; until grep -q "^in clear $n" said; do sleep 0.1; done
+  >   if [ $n = 3 ]; then rm cc/00000000000000000002.journal; fi
+  > done
+  $ exec 3>&-; wait; ls cc
+  00000000000000000005.journal
+  00000000000000000006.journal
+  lock
 
 A damaged file is none of a trace; a record at the end that was cut is passed over.
 

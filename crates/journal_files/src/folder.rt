@@ -94,6 +94,9 @@ impl<'a, R: Files + AllocGlobal> Folder<'a, R> {
     /// Makes the folder, and those above it, unless it is there, and has its name on the disk. The answer is whether it has:
     /// not where the folder above may not be read, which only who reads it can sync.
     pub fn make(&self) -> io::Result<bool> {
+        if self.path.is_empty() {
+            return Err(io::Error::from(io::ErrorKind::NotFound));
+        }
         fs::create_dir_all(self.rt, self.path)?;
         match File::open(self.rt, parent_of(self.path)) {
             Ok(parent) => {
@@ -154,13 +157,15 @@ impl<'a, R: Files + AllocGlobal> Folder<'a, R> {
         Ok(octets)
     }
 
-    /// Writes a file under a name of its own, and has it on the disk.
+    /// Writes a file under a name of its own, and has it on the disk. What has that name goes first, so that nothing is written
+    /// through a link.
     pub(crate) fn write_begun(&self, octets: &[u8]) -> io::Result<R::File> {
         let path = path_of(self.rt.alloc(), self.path, BEGUN)?;
+        // where it stays, the file isn't made
+        let _gone = fs::remove_file(self.rt, path.as_str());
         let mut file = OpenOptions::new()
             .write(true)
-            .create(true)
-            .truncate(true)
+            .create_new(true)
             .open(self.rt, path.as_str())?;
         file.write_all(octets)?;
         file.sync_all()?;
@@ -175,9 +180,12 @@ impl<'a, R: Files + AllocGlobal> Folder<'a, R> {
         File::open(self.rt, self.path)?.sync_all()
     }
 
-    /// Removes the file that begins behind a line.
+    /// Removes the file that begins behind a line, if it is there.
     pub(crate) fn remove_span(&self, number: u64) -> io::Result<()> {
         let path = self.span_path(number)?;
-        fs::remove_file(self.rt, path.as_str())
+        match fs::remove_file(self.rt, path.as_str()) {
+            Err(error) if error.kind() == io::ErrorKind::NotFound => Ok(()),
+            removed => removed,
+        }
     }
 }

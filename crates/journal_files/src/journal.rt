@@ -44,6 +44,8 @@ pub struct Journal<'a, R: Files + AllocGlobal> {
     keep: Option<usize>,
     waiting: Vec<u8>,
     last: u64,
+    /// Behind which line they are counted.
+    counted_from: u64,
 }
 
 impl<'a, R: Files + AllocGlobal> Journal<'a, R> {
@@ -82,12 +84,23 @@ impl<'a, R: Files + AllocGlobal> Journal<'a, R> {
             keep,
             waiting: Vec::new(alloc),
             last,
+            counted_from: number,
         })
     }
 
     /// The number of the last line that was noted.
     pub fn last(&self) -> u64 {
         self.last
+    }
+
+    /// How many lines were noted since the file was begun, or since they were counted anew.
+    pub fn lines(&self) -> u64 {
+        self.last.saturating_sub(self.counted_from)
+    }
+
+    /// Counts the lines anew that are noted.
+    pub fn count_anew(&mut self) {
+        self.counted_from = self.last;
     }
 
     /// Whether so much waits that it should be put on the disk.

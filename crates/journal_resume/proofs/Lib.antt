@@ -1,2 +1,6 @@
+-- one octet more
+pub mod Zeros
 -- one record more
 pub mod Steps
+-- the reasons of refusals
+pub mod Refused

@@ -1,5 +1,5 @@
 -- One record more.
-use Rattle.std.proofs.Common.{◌≡◌, ◌⊎◌, ◌+◌, ℕ, List, [], ◌∷◌, ◌++◌, append_assoc, refl, sym, subst, ◌∙◌, ap}
+use Rattle.std.proofs.Common.{◌≡◌, ◌⊎◌, inl, inr, ◌+◌, ◌≢◌, ◌≤◌, ◌^◌, ℕ, length, List, [], ◌∷◌, ◌++◌, append_assoc, refl, sym, subst, ◌∙◌, ap}
 use Rattle.std.proofs.lemmas.List.{append-nil}
 use Rattle.std.proofs.lemmas.List.Concat.{flat_map-append}
 use Rattle.radio_book.specs.declared.event.Event.{Event}
@@ -7,9 +7,10 @@ use Rattle.cell_table.specs.Site.{SiteView}
 use Rattle.radio_book.specs.State.{State, empty_book}
 use Rattle.radio_book.specs.Table.{step}
 use Rattle.radio_book.specs.Run.{run_book}
-use Rattle.journal_records.specs.Records.{record_text, BeginsWith, IsCut}
+use Rattle.journal_records.specs.Records.{record_text, BeginsWith}
 use Rattle.journal_records.specs.Files.{first_line}
 use Rattle.trace_entries.specs.Entries.{entries_of, events_of}
+use Rattle.journal_resume.specs.Ends.{IsEnd}
 use Rattle.journal_resume.specs.Heads.{site_line, BeginsWithLine}
 use Rattle.journal_resume.specs.Resume.{Numbered, records_text, events_in, AreCounted, IsResumed, IsJournal}
 
@@ -56,8 +57,8 @@ one_more b before octets b' last left n body behind b'' so_far begins next led =
 }
 
 pub no_more : (b : State) (before : ℕ) (octets : List ℕ) (b' : State) (last : ℕ) (left : List ℕ) →
-    SoFar b before octets b' last left → (left ≡ []) ⊎ IsCut left → IsResumed b before octets b' last left
-no_more b before octets b' last left so_far cut = (so_far.records, record { text = so_far.text; counted = so_far.counted; cut = cut }, so_far.book)
+    SoFar b before octets b' last left → IsEnd left → IsResumed b before octets b' last left
+no_more b before octets b' last left so_far end = (so_far.records, record { text = so_far.text; counted = so_far.counted; end = end }, so_far.book)
 
 -- the head, and the records behind it
 pub whole : (sum : ℕ) (site : SiteView) (octets behind_line behind : List ℕ) (n : ℕ) (head : List ℕ) (opening b : State) (last : ℕ) (left : List ℕ)

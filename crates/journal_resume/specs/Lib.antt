@@ -1,2 +1,4 @@
+pub mod Ends
 pub mod Heads
 pub mod Resume
+pub mod Refusals

@@ -1,13 +1,14 @@
 -- What a journal's file says, and the book to which it leads. Ours, of no standard. A text is the list of its bytes.
-use Rattle.std.specs.Prelude.{◌≡◌, ◌⊎◌, ◌+◌, ℕ, List, [], ◌∷◌, ◌++◌}
+use Rattle.std.specs.Prelude.{◌≡◌, ◌+◌, ℕ, List, [], ◌∷◌, ◌++◌}
 use Rattle.std.specs.List.{flat_map}
 use Rattle.cell_table.specs.Site.{SiteView}
 use Rattle.radio_book.specs.declared.event.Event.{Event}
 use Rattle.radio_book.specs.State.{State, empty_book}
 use Rattle.radio_book.specs.Run.{run_book}
-use Rattle.journal_records.specs.Records.{record_text, IsCut}
+use Rattle.journal_records.specs.Records.{record_text}
 use Rattle.journal_records.specs.Files.{first_line}
 use Rattle.trace_entries.specs.Entries.{entries_of, events_of}
+use Rattle.journal_resume.specs.Ends.{IsEnd}
 use Rattle.journal_resume.specs.Heads.{site_line, BeginsWithLine}
 
 -- a record: its number, and its body, which is a trace
@@ -26,18 +27,18 @@ abbrev pub AreCounted : ℕ → List Numbered → ℕ → Type 0
 AreCounted before [] last = last ≡ before
 AreCounted before (r ∷ records) last = (r.0 ≡ before + 1) × AreCounted (before + 1) records last
 
--- These records stand at the front of some octets; what stands behind them is nothing, or a record that was cut.
+-- These records stand at the front of some octets; behind them is nothing, or a record that was cut.
 pub record AreRecords (records : List Numbered) (before : ℕ) (octets : List ℕ) (last : ℕ) (left : List ℕ) : Type 0 where
   pub text : octets ≡ records_text records ++ left
   pub counted : AreCounted before records last
-  pub cut : (left ≡ []) ⊎ IsCut left
+  pub end : IsEnd left
 
 -- the book is that of the records' events, asked one after another
 abbrev pub IsResumed : State → ℕ → List ℕ → State → ℕ → List ℕ → Type 0
 IsResumed b before octets b' last left = (records : List Numbered) × AreRecords records before octets last left × (b' ≡ run_book b (events_in records))
 
 -- A journal's file of a site: its first line, then a head with this number, and then records. This is its book: that of the events
--- of the head and of all records, asked of the empty book of the site one after another. What is left was cut, or is nothing.
+-- of the head and of all records, asked of the empty book of the site one after another. What is left is nothing, or was cut.
 pub record IsJournal (sum : ℕ) (site : SiteView) (number : ℕ) (octets : List ℕ) (b : State) (last : ℕ) (left : List ℕ) : Type 0 where
   pub head : List ℕ
   pub records : List Numbered

@@ -1,12 +1,14 @@
 //! A journal's file as a whole.
-ghost use Rattle.std.specs.Prelude.{◌≡◌, ◌++◌, OnOk, IfOk, IsTrue};
+ghost use Rattle.std.specs.Prelude.{◌≡◌, ◌↔◌, ◌++◌, OnOk, IfOk, IfErr, IsTrue};
 ghost use Rattle.radio_book.specs.State.{empty_book};
 ghost use Rattle.radio_book.specs.Run.{run_book};
 ghost use Rattle.trace_entries.specs.Entries.{entries_of, events_of};
 ghost use Rattle.journal_records.specs.Records.{BeginsWith};
 ghost use Rattle.journal_resume.specs.Heads as heads;
 ghost use Rattle.journal_resume.specs.Resume.{IsJournal};
+ghost use Rattle.journal_resume.specs.Refusals.{IsReason, IsHeadReason, IsRecordReason};
 
+use crate::ends::is_end;
 use crate::head::site_line;
 use crate::resuming::{ResumeFault, Resumed, follow_records, take_record};
 use cell_table::Site;
@@ -27,20 +29,29 @@ pub enum WholeFault {
     Damaged(usize),
 }
 
+/// Whether two texts are the same.
+fn is_same(one: &[u8], other: &[u8]) -> bool
+    ensures { IsTrue result ↔ (one.now ≡ other.now) }
+{
+    one == other
+}
+
 /// Whether a text begins with a line.
 fn begins_with(line: &[u8], text: &[u8]) -> bool
-    ensures { IsTrue result → heads.BeginsWithLine line.now text.now }
+    ensures { IsTrue result ↔ (heads.BeginsWithLine line.now text.now) }
 {
     if text.len() < line.len() {
         return false;
     }
     let (front, _behind) = text.split_at(line.len());
-    front == line
+    is_same(front, line)
 }
 
 /// The head with which the records of a file begin, and which has this number.
 fn head_at<'a>(octets: &'a [u8], number: u64) -> Result<Record<'a>, ResumeFault>
-    ensures { IfOk result (λ r. BeginsWith octets.now number r.body.now r.behind.now) }
+    ensures head { IfOk result (λ r. BeginsWith octets.now number r.body.now r.behind.now) }
+    ensures number { IfOk result (λ r. r.number ≡ number) }
+    ensures reason { IfErr result (λ fault. IsHeadReason fault number octets.now) }
 {
     let head = match first_record(octets) {
         Ok(head) => head,
@@ -59,8 +70,8 @@ fn is_of_site<A: Allocator + Copy>(
     site_sum: u32,
     head: Record<'_>,
 ) -> Result<bool, AllocError>
-    ensures { IfOk result (λ is. IsTrue is →
-        heads.BeginsWithLine (heads.site_line site_sum) head.entry.body.now) }
+    ensures { IfOk result (λ is. IsTrue is ↔
+        (heads.BeginsWithLine (heads.site_line site_sum) head.entry.body.now)) }
 {
     let line = site_line(alloc, site_sum)?;
     Ok(begins_with(line.as_bytes(), head.body))
@@ -72,8 +83,10 @@ fn book_of_head<A: Allocator + Copy>(
     site: Arc<Site<A>, A>,
     head: Record<'_>,
 ) -> Result<Book<A>, ResumeFault>
-    ensures { IfOk result (λ book.
+    ensures book { IfOk result (λ book.
         book ≡ run_book (empty_book site.value) (events_of (entries_of head.entry.body.now))) }
+    ensures reason { IfErr result (λ fault.
+        IsRecordReason fault head.entry.number head.entry.number head.entry.body.now) }
 {
     let mut book = Book::new(alloc, site)?;
     take_record(alloc, &mut book, head.number, head)?;
@@ -82,9 +95,10 @@ fn book_of_head<A: Allocator + Copy>(
 
 /// The book of a journal's file, which has this number in its name: that of the events of its head and of all its records, one
 /// after another, from the empty book of the site on. Each reply is compared with the one that the file has. A record at the end
-/// that was cut is left.
+/// that was cut is left, with zeros behind it.
 ///
-/// A fault has the number of the first record that can't be taken.
+/// It is refused only for the reason that the fault says, which the file then has. A fault has the number of the first record
+/// that can't be taken.
 pub fn resume<'a, A: Allocator + Copy>(
     alloc: A,
     site: Arc<Site<A>, A>,
@@ -93,6 +107,7 @@ pub fn resume<'a, A: Allocator + Copy>(
     octets: &'a [u8],
 ) -> Result<Resumed<'a, A>, ResumeFault>
     ensures journal { IfOk result (λ r. IsJournal site_sum site.value number octets.now r.book r.last r.left.now) }
+    ensures reason { IfErr result (λ fault. IsReason fault site_sum number octets.now) }
 {
     let records = match behind_first_line(octets) {
         Ok(records) => records,
@@ -116,8 +131,10 @@ pub fn whole_octets(octets: &[u8]) -> Result<&[u8], WholeFault> {
         let place = octets.len().saturating_sub(left.len());
         match first_record(left) {
             Ok(taken) => left = taken.behind,
-            Err(RecordFault::Damaged) => return Err(WholeFault::Damaged(place)),
-            Err(RecordFault::Cut) => return Ok(octets.split_at(place.min(octets.len())).0),
+            Err(RecordFault::Damaged | RecordFault::Cut) if is_end(left) => {
+                return Ok(octets.split_at(place.min(octets.len())).0);
+            }
+            Err(RecordFault::Damaged | RecordFault::Cut) => return Err(WholeFault::Damaged(place)),
         }
     }
     Ok(octets)

@@ -2,6 +2,7 @@
 //! begun.
 #![tactic(auto)]
 
+mod ends;
 mod head;
 mod journal;
 mod resuming;
@@ -11,4 +12,4 @@ mod traces;
 pub use head::{HeadFault, head_body};
 pub use journal::{WholeFault, resume, whole_octets};
 pub use resuming::{ResumeFault, Resumed};
-pub use sent::tell_sent;
+pub use sent::{last_number, tell_sent};

@@ -1,10 +1,13 @@
 //! The book to which records lead, one behind another.
-ghost use Rattle.std.specs.Prelude.{◌≡◌, ◌⊎◌, [], OnOk, IfOk, MatchOption};
+ghost use Rattle.std.specs.Prelude.{◌≡◌, ◌+◌, OnOk, OnErr, IfOk, IfErr, MatchOption};
 ghost use Rattle.radio_book.specs.Run.{run_book};
 ghost use Rattle.trace_entries.specs.Entries.{entries_of, events_of};
-ghost use Rattle.journal_records.specs.Records.{BeginsWith, IsCut};
+ghost use Rattle.journal_records.specs.Records.{BeginsWith};
+ghost use Rattle.journal_resume.specs.Ends.{IsEnd};
 ghost use Rattle.journal_resume.specs.Resume.{IsResumed};
+ghost use Rattle.journal_resume.specs.Refusals.{IsRecordReason, IsNextReason, IsReasonBehind};
 
+use crate::ends::is_end;
 use crate::traces::ask_trace;
 use journal_records::{FileFault, Record, RecordFault, first_record};
 use radio_book::book::Book;
@@ -63,7 +66,7 @@ pub struct Resumed<'a, A: Allocator = Global> {
     pub book: Book<A>,
     /// The number of the last record; where there is none, that of the head.
     pub last: u64,
-    /// What stands behind the last record: nothing, or one that was cut.
+    /// What stands behind the last record: nothing, or one that was cut, with zeros behind it.
     pub left: &'a [u8],
 }
 
@@ -74,7 +77,8 @@ fn take_trace<A: Allocator + Copy>(
     number: u64,
     trace: &str,
 ) -> Result<(), ResumeFault>
-    ensures { OnOk result (book.new ≡ run_book book.old (events_of (entries_of trace.now))) }
+    ensures book { OnOk result (book.new ≡ run_book book.old (events_of (entries_of trace.now))) }
+    ensures reason { IfErr result (λ fault. IsRecordReason fault number number trace.now) }
 {
     if first_unreadable(trace).is_some() {
         return Err(ResumeFault::Unreadable(number));
@@ -95,6 +99,8 @@ pub(crate) fn take_record<A: Allocator + Copy>(
 ) -> Result<(), ResumeFault>
     ensures number { OnOk result (taken.entry.number ≡ number) }
     ensures book { OnOk result (book.new ≡ run_book book.old (events_of (entries_of taken.entry.body.now))) }
+    ensures reason { IfErr result (λ fault.
+        IsRecordReason fault number taken.entry.number taken.entry.body.now) }
 {
     if taken.number != number {
         return Err(ResumeFault::Misplaced(number));
@@ -105,19 +111,17 @@ pub(crate) fn take_record<A: Allocator + Copy>(
     }
 }
 
-/// The record that comes next, of this number; `None` at the end, and where a record was cut.
+/// The record that comes next, of this number; `None` at the end, and where a record was cut. `Damaged`, exactly elsewhere.
 fn next_record<'a>(octets: &'a [u8], number: u64) -> Result<Option<Record<'a>>, ResumeFault>
     ensures next { IfOk result (λ next. MatchOption next
-        ((octets.now ≡ []) ⊎ IsCut octets.now)
+        (IsEnd octets.now)
         (λ r. BeginsWith octets.now r.number r.body.now r.behind.now)) }
+    ensures reason { IfErr result (λ fault. IsNextReason fault number octets.now) }
 {
-    if octets.is_empty() {
-        return Ok(None);
-    }
     match first_record(octets) {
         Ok(taken) => Ok(Some(taken)),
-        Err(RecordFault::Cut) => Ok(None),
-        Err(RecordFault::Damaged) => Err(ResumeFault::Damaged(number)),
+        Err(RecordFault::Cut | RecordFault::Damaged) if is_end(octets) => Ok(None),
+        Err(RecordFault::Cut | RecordFault::Damaged) => Err(ResumeFault::Damaged(number)),
     }
 }
 
@@ -131,7 +135,8 @@ pub(crate) fn follow_records<'a, A: Allocator + Copy>(
     number: u64,
     octets: &'a [u8],
 ) -> Result<Resumed<'a, A>, ResumeFault>
-    ensures { IfOk result (λ r. IsResumed opening number octets.now r.book r.last r.left.now) }
+    ensures resumed { IfOk result (λ r. IsResumed opening number octets.now r.book r.last r.left.now) }
+    ensures reason { IfErr result (λ fault. IsReasonBehind fault (number + 1) octets.now) }
 {
     let Some(first) = number.checked_add(1) else {
         return Err(ResumeFault::Misplaced(number));

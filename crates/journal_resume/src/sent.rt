@@ -35,3 +35,17 @@ pub fn tell_sent<W: Write>(out: &mut W, octets: &[u8], heard: u64) -> io::Result
     }
     Ok(())
 }
+
+/// The number of the last of some octets' records, if they begin with one.
+pub fn last_number(octets: &[u8]) -> Option<u64> {
+    let mut last = None;
+    let mut left = octets;
+    for _ in 0..u64::MAX {
+        let Ok(taken) = first_record(left) else {
+            return last;
+        };
+        last = Some(taken.number);
+        left = taken.behind;
+    }
+    last
+}

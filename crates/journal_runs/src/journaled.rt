@@ -34,13 +34,15 @@ pub struct Journaled<'a, L, R: Files + AllocGlobal> {
     path: &'a str,
     site_sum: u32,
     when_lost: WhenLost,
+    lines: u64,
     body: Vec<u8>,
     phase: Phase,
     lost: Option<Lost>,
 }
 
 impl<'a, L, R: Files + AllocGlobal> Journaled<'a, L, R> {
-    /// One that notes what it hears in a journal, of a folder with this path, and of a site with this checksum.
+    /// One that notes what it hears in a journal, of a folder with this path, and of a site with this checksum. A file has at most
+    /// so many lines, if the next one can be begun.
     pub fn new(
         alloc: Global,
         inner: L,
@@ -48,6 +50,7 @@ impl<'a, L, R: Files + AllocGlobal> Journaled<'a, L, R> {
         path: &'a str,
         site_sum: u32,
         when_lost: WhenLost,
+        lines: u64,
     ) -> Journaled<'a, L, R> {
         Journaled {
             inner,
@@ -56,6 +59,7 @@ impl<'a, L, R: Files + AllocGlobal> Journaled<'a, L, R> {
             path,
             site_sum,
             when_lost,
+            lines,
             body: Vec::new(alloc),
             phase: Phase::Notes,
             lost: None,
@@ -71,6 +75,7 @@ impl<'a, L, R: Files + AllocGlobal> Journaled<'a, L, R> {
             path: _,
             site_sum: _,
             when_lost: _,
+            lines: _,
             body: _,
             phase: _,
             lost,
@@ -209,11 +214,17 @@ impl<L: LiveListener<Global>, R: Files + AllocGlobal> LiveListener<Global> for J
         self.inner.hear_line_end(errors)
     }
 
+    fn wants_anew(&self) -> bool {
+        self.lost.is_none() && self.lines <= self.journal.lines()
+    }
+
     fn hear_anew<E: Write>(&mut self, book: &Book<Global>, errors: &mut E) -> Result<(), LabFault> {
         self.hear_wait(errors)?;
         if self.lost.is_some() {
             return Ok(());
         }
+        // also where no file can be begun
+        self.journal.count_anew();
         match head_body(self.alloc, self.site_sum, book) {
             Ok(head) => self.begin_span(&head, errors),
             Err(HeadFault::NoMemory) => Err(LabFault::NoMemory),

@@ -2,7 +2,9 @@
 use cell_table::Site;
 use journal_files::{Folder, Journal, Listing, Locking, Lost};
 use journal_records::FIRST_LINE;
-use journal_resume::{HeadFault, ResumeFault, Resumed, head_body, resume, tell_sent, whole_octets};
+use journal_resume::{
+    HeadFault, ResumeFault, Resumed, head_body, last_number, resume, tell_sent, whole_octets,
+};
 use lab_runs::run::LabFault;
 use lab_words::JournalWords;
 use live_runs::LiveFault;
@@ -129,25 +131,45 @@ fn say_resumed<E: Write>(found: &Found, path: &str, errors: &mut E) -> io::Resul
     )
 }
 
-/// Tells once more what was sent for the lines of one file that stand behind one.
+/// The octets of the file that has this number in its name.
+fn octets_of<R: Files + AllocGlobal, E: Write>(
+    folder: &Folder<'_, R>,
+    number: u64,
+    path: &str,
+    errors: &mut E,
+) -> Result<Vec<u8>, OpenFault> {
+    match folder.read_span(number) {
+        Ok(octets) => Ok(octets),
+        Err(error) if error.kind() == io::ErrorKind::OutOfMemory => Err(OpenFault::NoMemory),
+        Err(error) => Err(refuse(path, Reason(&error), errors)),
+    }
+}
+
+/// Tells once more what was sent for the lines of one file that stand behind one. Where another file follows, this one has all
+/// lines up to it.
 fn tell_span<R: Files + AllocGlobal, W: Write, E: Write>(
     folder: &Folder<'_, R>,
     number: u64,
+    next: Option<u64>,
     heard: u64,
     out: &mut W,
     errors: &mut E,
 ) -> Result<(), OpenFault> {
-    let octets = folder.read_span(number)?;
-    match whole_octets(&octets) {
-        Ok(whole) => {
-            let (_first_line, records) = whole.split_at(FIRST_LINE.len().min(whole.len()));
-            tell_sent(out, records, heard).map_err(|_| OpenFault::Write)
-        }
-        Err(fault) => {
-            let path = folder.span_path(number).map_err(|_| OpenFault::NoMemory)?;
-            Err(refuse(&path, fault, errors))
-        }
+    let path = folder.span_path(number).map_err(|_| OpenFault::NoMemory)?;
+    let octets = octets_of(folder, number, &path, errors)?;
+    let whole = match whole_octets(&octets) {
+        Ok(whole) => whole,
+        Err(fault) => return Err(refuse(&path, fault, errors)),
+    };
+    let (_first_line, records) = whole.split_at(FIRST_LINE.len().min(whole.len()));
+    if next.is_some() && last_number(records) != next {
+        return Err(refuse(
+            &path,
+            "no file has the lines behind its last record",
+            errors,
+        ));
     }
+    tell_sent(out, records, heard).map_err(|_| OpenFault::Write)
 }
 
 /// Tells once more what was sent for the lines of all files that have lines behind one.
@@ -159,12 +181,13 @@ fn tell_heard<R: Files + AllocGlobal, W: Write, E: Write>(
     errors: &mut E,
 ) -> Result<(), OpenFault> {
     for (place, number) in spans.iter().enumerate() {
-        let is_over = match spans.get(place.saturating_add(1)) {
-            Some(next) => *next <= heard,
+        let next = spans.get(place.saturating_add(1)).copied();
+        let is_over = match next {
+            Some(next) => next <= heard,
             None => false,
         };
         if !is_over {
-            tell_span(folder, *number, heard, out, errors)?;
+            tell_span(folder, *number, next, heard, out, errors)?;
         }
     }
     out.flush().map_err(|_| OpenFault::Write)
@@ -194,7 +217,7 @@ fn go_on<'a, R: Files + AllocGlobal, W: Write, E: Write>(
     let path = folder
         .span_path(last_span)
         .map_err(|_| OpenFault::NoMemory)?;
-    let octets = folder.read_span(last_span)?;
+    let octets = octets_of(&folder, last_span, &path, errors)?;
     let found = found_in(alloc, &path, site, site_sum, last_span, &octets, errors)?;
     if let Some(heard) = words.heard {
         if is_gone(&spans, heard) || found.last < heard {

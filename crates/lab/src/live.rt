@@ -146,6 +146,7 @@ where
         journal_words.folder,
         site_sum,
         journal_words.when_lost,
+        asked.entries as u64,
     );
     let ended = live_run(alloc, book, rules, reader, &mut journaled, errors);
     let (viewer, lost) = journaled.into_parts();
@@ -165,9 +166,9 @@ where
 /// with the lines, and the capture's file is emptied when the site was read, and then grows with each line. The line `summary`
 /// is answered by what came so far, counted.
 ///
-/// The history begins anew behind a line with which it has as many entries as is asked for. With a journal what came of each
-/// line is on the disk before anything of it is written to `out`; where the folder has a journal already, the controller goes
-/// on with its book and its count of lines, as `errors` says.
+/// The history begins anew behind a line with which it has as many entries as is asked for, or the journal's file as many lines.
+/// With a journal what came of each line is on the disk before anything of it is written to `out`; where the folder has a
+/// journal already, the controller goes on with its book and its count of lines, as `errors` says.
 ///
 /// The file and its site are refused as [`run_files`](crate::files::run_files) refuses them, before anything of `input` is read.
 /// The answer is `Done` at the end of `input`, and `Refused` where the file, the site or the journal is, where the capture's

@@ -184,8 +184,17 @@ fn take_or_answer<A: Allocator + Copy, L: LiveListener<A>, E: Write>(
     say_unmet(number, listener, errors)
 }
 
+/// With how many entries of its history the desk begins anew: with any, where the listener wants it.
+fn entries_of<A: Allocator + Copy, L: LiveListener<A>>(rules: Rules, listener: &L) -> usize {
+    if listener.wants_anew() {
+        0
+    } else {
+        rules.entries
+    }
+}
+
 /// Takes a line, or answers one that is none of a script; then the listener is told that no more comes of it, and the desk begins
-/// anew once its history is long.
+/// anew once its history is long, or the listener wants it.
 fn take_line<A: Allocator + Copy, L: LiveListener<A>, E: Write>(
     live: &mut Live<A>,
     rules: Rules,
@@ -199,7 +208,7 @@ fn take_line<A: Allocator + Copy, L: LiveListener<A>, E: Write>(
 {
     take_or_answer(live, rules, number, line, listener, errors)?;
     listener.hear_line_end(errors)?;
-    if live.rest(rules.entries)? {
+    if live.rest(entries_of(rules, listener))? {
         listener.hear_anew(live.course.controllers.first_book(), errors)?;
     }
     Ok(())
@@ -295,10 +304,10 @@ fn run_to_end<A: Allocator + Copy, R: LineReader, L: LiveListener<A>, E: Write>(
 /// nothing: the listener is told its number, counted on from that of the first, and `errors` why; but of the line `summary` it
 /// is asked to tell what it counted. Where the rules allow no simulators, a line that attaches them can't be read. The listener
 /// is told where the reader has no other line yet. Behind a line with which the desk's history has as many entries as the rules
-/// say, the desk begins anew, and the listener is told. At the end of the reader the listener is told what the book holds. Where
-/// the reader's octets are known, what was handled is what exactly the lines that can be read give, in their order, however the
-/// reader cuts them; all other inputs are a simulator's by their source. Of a line that asks the book in vain `errors` is told
-/// why.
+/// say, or the listener wants it, the desk begins anew, and the listener is told. At the end of the reader the listener is told
+/// what the book holds. Where the reader's octets are known, what was handled is what exactly the lines that can be read give, in
+/// their order, however the reader cuts them; all other inputs are a simulator's by their source. Of a line that asks the book in
+/// vain `errors` is told why.
 ///
 /// `NoMemory`: memory was refused; the listener was told what is owed. `Write`: the listener or `errors` couldn't write. `Read`:
 /// the reader failed. After any of them what came before was handled.

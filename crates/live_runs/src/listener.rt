@@ -25,6 +25,11 @@ pub trait LiveListener<A: Allocator + Copy>: Listener<A> {
         Ok(())
     }
 
+    /// Whether the desk should begin anew, though its history isn't long.
+    fn wants_anew(&self) -> bool {
+        false
+    }
+
     /// The desk began anew with this book. What is to be told a person goes to `errors`.
     fn hear_anew<E: Write>(&mut self, _book: &Book<A>, _errors: &mut E) -> Result<(), LabFault> {
         Ok(())

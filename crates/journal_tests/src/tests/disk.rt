@@ -290,8 +290,11 @@ impl Files for Disk {
                 state.forget(path);
             }
             match state.node_of(path) {
+                Some(_) if how.asks_create_new() => {
+                    return Err(io::Error::from(io::ErrorKind::AlreadyExists));
+                }
                 Some(node) => Some(node),
-                None if how.asks_create() => Some(state.make(path)?),
+                None if how.asks_create() || how.asks_create_new() => Some(state.make(path)?),
                 None => return Err(missing()),
             }
         };

@@ -84,6 +84,31 @@ fn a_cut_file_keeps_its_whole_records(rt: HostRuntime) -> Result<(), Fail> {
     Ok(())
 }
 
+/// Behind whole records, and behind one that was cut, zeros may stand up to the end, and nothing behind them.
+#[test]
+fn zeros_at_the_end_are_dropped(rt: HostRuntime) -> Result<(), Fail> {
+    let alloc = rt.alloc();
+    let site = fresh_site(alloc)?;
+    let whole = file(alloc, &site)?;
+    for cut in [0usize, 1, 30, 90] {
+        let mut octets = whole[..whole.len().saturating_sub(cut)].to_vec(alloc)?;
+        let last = if cut == 0 { 7u64 } else { 6 };
+        octets.extend_from_slice(&[0u8; 100])?;
+        match resume(alloc, site.clone()?, SITE_SUM, 5, &octets) {
+            Ok(found) => assert_eq!(rt; found.last, last, "{cut}"),
+            Err(fault) => panic!(rt; "{cut}: {fault}"),
+        }
+        octets.push(10)?;
+        let next = last.saturating_add(1);
+        assert_eq!(rt;
+            fault_of(alloc, &site, &octets)?,
+            Some(ResumeFault::Damaged(next)),
+            "{cut}"
+        );
+    }
+    Ok(())
+}
+
 #[test]
 fn another_site_and_another_reply_are_refused(rt: HostRuntime) -> Result<(), Fail> {
     let alloc = rt.alloc();

@@ -1,5 +1,6 @@
-use Rattle.std.proofs.Common.{refl}
+use Rattle.std.proofs.Common.{◌+◌, ◌≤◌, length, inr, refl, arith}
 use Rattle.journal_resume.proofs.Steps.{read_more, one_more}
+use Rattle.journal_resume.proofs.Refused.{handed_on, record_reason, reason_so_far, counted_length}
 use Rattle.journal_resume.proofs.resuming.follow_records.Goals as goal
 
 pub loop-next-preserved : goal.loop-next-preserved
@@ -16,3 +17,28 @@ loop-next-preserved g c =
           c.loop-next.invariant.next c.in_ok-take_record.ensures.book;
       next = refl;
     }
+
+pub returns-in_err-taken-clause-reason : goal.returns-in_err-taken-clause-reason
+returns-in_err-taken-clause-reason g c =
+    let so_far = c.loop-next.resumed in
+    let why = c.in_err-taken.field-0.0 in
+    handed_on c.from_residual.result why _ c.from_residual.ensures.1
+        (reason_so_far why c.args.opening c.args.number c.args.octets.now so_far.book so_far.last c.loop-next.next so_far.left.now
+        c.loop-next.invariant.so_far c.loop-next.invariant.next c.in_err-taken.ensures.reason)
+
+pub returns-in_err-take_record-clause-reason : goal.returns-in_err-take_record-clause-reason
+returns-in_err-take_record-clause-reason g c =
+    let so_far = c.loop-next.resumed in
+    let taken = c.in-Some-2.taken in
+    let why = c.in_err-take_record.field-0.0 in
+    let begins = rw c.in-Some-2.is at c.in_ok-taken.ensures.next in
+    handed_on c.from_residual-in_err-take_record.result why _ c.from_residual-in_err-take_record.ensures.1
+        (reason_so_far why c.args.opening c.args.number c.args.octets.now so_far.book so_far.last c.loop-next.next so_far.left.now
+        c.loop-next.invariant.so_far c.loop-next.invariant.next
+        (record_reason why c.loop-next.next taken.number so_far.left.now taken.body.now taken.behind.now begins c.in_err-take_record.ensures.reason))
+
+pub returns-clause-reason : goal.returns-clause-reason
+returns-clause-reason g c =
+    let so_far = c.loop-next.invariant.so_far in
+    let counted = counted_length c.args.number so_far.records c.loop-next.resumed.last so_far.counted in
+    (so_far.records, c.loop-next.resumed.left.now, so_far.text, inr (omega (arith, c.loop-next-test.false, c.loop-next.invariant.next, counted)))

@@ -1,0 +1,89 @@
+-- The reasons of refusals, behind one record more.
+use Rattle.std.proofs.Common.{◌≡◌, ◌≢◌, ◌⊎◌, inl, inr, ◌+◌, ◌<◌, ℕ, List, [], ◌∷◌, ◌++◌, length, length-append, take, drop, append_assoc, Result, Ok, Err, IsErrAnd, IfErr, refl, sym, subst, ◌∙◌, ap, arith}
+use Rattle.std.proofs.lemmas.List.{take_at, take-append-drop}
+use Rattle.radio_book.specs.State.{State}
+use Rattle.journal_records.specs.Records.{record_text, BeginsWith}
+use Rattle.journal_records.specs.Files.{first_line}
+use Rattle.journal_resume.specs.declared.resuming.ResumeFault.{ResumeFault}
+use Rattle.journal_resume.specs.declared.resuming.ResumeFault.TheVariants as fault
+use Rattle.journal_resume.specs.Heads.{BeginsWithLine}
+use Rattle.journal_resume.specs.Resume.{Numbered, records_text, AreCounted}
+use Rattle.journal_resume.specs.Refusals.{IsRecordReason, IsNextReason, IsReasonBehind, IsHeadReason, IsReason, BehindFirstLine}
+use Rattle.journal_resume.proofs.Steps.{SoFar}
+
+-- a text that begins with a line isn't shorter, and has the line in front
+pub line_is_short : (line text : List ℕ) → BeginsWithLine line text → length text < length line → ⊥
+line_is_short line text (behind, is) short = omega (arith, ap length is, length-append line behind, short)
+
+pub line_in_front : (line text : List ℕ) → BeginsWithLine line text → take (length line) text ≡ line
+line_in_front line text (behind, is) = ap (take (length line)) is ∙ take_at line behind (length line) refl
+
+pub front_is_line : (line text : List ℕ) → take (length line) text ≡ line → BeginsWithLine line text
+front_is_line line text is = (drop (length line) text, sym (take-append-drop (length line) text) ∙ ap (λ f. f ++ drop (length line) text) is)
+
+-- what `?` hands on
+pub handed_on : {T : Type 0} (r : Result T ResumeFault) (x : ResumeFault) (P : ResumeFault → Type 0) → IsErrAnd r (λ y. y ≡ x) → P x → IfErr r P
+handed_on (Ok t) x P is why = absurd is
+handed_on (Err y) x P is why = subst P (sym is) why
+
+-- why a record isn't taken, where it stands
+pub record_reason : (f : ResumeFault) (next number : ℕ) (left body behind : List ℕ) → BeginsWith left number body behind → IsRecordReason f next number body → IsNextReason f next left
+record_reason (fault.Misplaced n) next number left body behind begins (is, other) = inl (number, body, behind, begins, other)
+record_reason (fault.Unreadable n) next number left body behind begins (is, same, why) = (is, body, behind, subst (λ k. BeginsWith left k body behind) same begins, why)
+record_reason (fault.OtherReply n) next number left body behind begins (is, same, why) = (is, body, behind, subst (λ k. BeginsWith left k body behind) same begins, why)
+record_reason fault.NoMemory next number left body behind begins why = tt
+record_reason (fault.File _) next number left body behind begins why = absurd why
+record_reason fault.NoHead next number left body behind begins why = absurd why
+record_reason fault.Renamed next number left body behind begins why = absurd why
+record_reason fault.AnotherSite next number left body behind begins why = absurd why
+record_reason (fault.Damaged _) next number left body behind begins why = absurd why
+
+pub counted_length : (before : ℕ) (rs : List Numbered) (last : ℕ) → AreCounted before rs last → last ≡ before + length rs
+counted_length before [] last is = omega (arith, is)
+counted_length before (r ∷ rs) last (first, rest) = omega (arith, counted_length (before + 1) rs last rest)
+
+-- behind the records that were taken
+pub reason_so_far : (f : ResumeFault) (b : State) (before : ℕ) (octets : List ℕ) (b' : State) (last next : ℕ) (left : List ℕ) →
+    SoFar b before octets b' last left → next ≡ last + 1 → IsNextReason f next left → IsReasonBehind f (before + 1) octets
+reason_so_far f b before octets b' last next left so_far is why =
+    let place : next ≡ before + 1 + length so_far.records = omega (arith, is, counted_length before so_far.records last so_far.counted) in
+    (so_far.records, left, so_far.text, subst (λ k. IsNextReason f k left) place why)
+
+-- at the head
+pub reason_at_head : (f : ResumeFault) (number : ℕ) (octets : List ℕ) → IsNextReason f number octets → IsReasonBehind f number octets
+reason_at_head f number octets why =
+    let place : number ≡ number + 0 = omega arith in
+    ([], octets, refl, subst (λ k. IsNextReason f k octets) place why)
+
+-- behind the head
+pub reason_behind_head : (f : ResumeFault) (number : ℕ) (octets head behind : List ℕ) → BeginsWith octets number head behind → IsReasonBehind f (number + 1) behind → IsReasonBehind f number octets
+reason_behind_head f number octets head behind begins (records, left, text, why) =
+    let place : number + 1 + length records ≡ number + length ((number, head) ∷ records) = omega arith in (
+      (number, head) ∷ records,
+      left,
+      begins.text ∙ ap (λ t. record_text number head ++ t) text ∙ sym (append_assoc (record_text number head) (records_text records) left),
+      subst (λ k. IsNextReason f k left) place why,
+    )
+
+-- of the file
+pub file_reason : (f : ResumeFault) (sum number : ℕ) (octets behind : List ℕ) → octets ≡ first_line ++ behind → IsReasonBehind f number behind → IsReason f sum number octets
+file_reason (fault.Damaged n) sum number octets behind line why = (behind, line, why)
+file_reason (fault.Misplaced n) sum number octets behind line why = (behind, line, why)
+file_reason (fault.Unreadable n) sum number octets behind line why = (behind, line, why)
+file_reason (fault.OtherReply n) sum number octets behind line why = (behind, line, why)
+file_reason fault.NoMemory sum number octets behind line why = tt
+file_reason (fault.File _) sum number octets behind line (records, left, text, why) = absurd why
+file_reason fault.NoHead sum number octets behind line (records, left, text, why) = absurd why
+file_reason fault.Renamed sum number octets behind line (records, left, text, why) = absurd why
+file_reason fault.AnotherSite sum number octets behind line (records, left, text, why) = absurd why
+
+pub head_reason : (f : ResumeFault) (sum number : ℕ) (octets behind : List ℕ) → octets ≡ first_line ++ behind → IsHeadReason f number behind → IsReason f sum number octets
+head_reason fault.NoHead sum number octets behind line why = (behind, line, why)
+head_reason fault.Renamed sum number octets behind line why = (behind, line, why)
+head_reason fault.NoMemory sum number octets behind line why = absurd why
+head_reason (fault.File _) sum number octets behind line why = absurd why
+head_reason fault.AnotherSite sum number octets behind line why = absurd why
+head_reason (fault.Damaged _) sum number octets behind line why = absurd why
+head_reason (fault.Misplaced _) sum number octets behind line why = absurd why
+head_reason (fault.Unreadable _) sum number octets behind line why = absurd why
+head_reason (fault.OtherReply _) sum number octets behind line why = absurd why

@@ -1,0 +1,77 @@
+-- Why a file is refused as a journal's. Ours, of no standard.
+use Rattle.std.specs.Prelude.{◌≡◌, ◌≢◌, ◌⊎◌, ◌+◌, ◌≤◌, ◌^◌, ℕ, List, ◌++◌, length, IsUtf8, IsSome, ⊤}
+use Rattle.journal_records.specs.declared.file.FileFault.TheVariants as file
+use Rattle.journal_records.specs.Records.{BeginsWith}
+use Rattle.journal_records.specs.Files.{kind, first_line, Begins}
+use Rattle.trace_entries.specs.Entries.{first_unreadable}
+use Rattle.journal_resume.specs.declared.resuming.ResumeFault.{ResumeFault}
+use Rattle.journal_resume.specs.declared.resuming.ResumeFault.TheVariants as fault
+use Rattle.journal_resume.specs.Ends.{IsEnd}
+use Rattle.journal_resume.specs.Heads.{site_line, BeginsWithLine}
+use Rattle.journal_resume.specs.Resume.{Numbered, records_text}
+
+-- octets begin with no record
+abbrev pub NoRecord : List ℕ → Type 0
+NoRecord octets = (number : ℕ) (body behind : List ℕ) → BeginsWith octets number body behind → ⊥
+
+-- a body is no text, or has a line that says no event though it begins as one
+abbrev pub IsUnreadable : List ℕ → Type 0
+IsUnreadable body = (IsUtf8 body → ⊥) ⊎ IsSome (first_unreadable body)
+
+-- Why a record isn't taken that should have the number `next`: what it has, and its body.
+abbrev pub IsRecordReason : ResumeFault → ℕ → ℕ → List ℕ → Type 0
+IsRecordReason (fault.Misplaced n) next number body = (n ≡ next) × (number ≢ next)
+IsRecordReason (fault.Unreadable n) next number body = (n ≡ next) × (number ≡ next) × IsUnreadable body
+IsRecordReason (fault.OtherReply n) next number body = (n ≡ next) × (number ≡ next) × (IsUnreadable body → ⊥)
+IsRecordReason fault.NoMemory next number body = ⊤
+IsRecordReason (fault.File _) next number body = ⊥
+IsRecordReason fault.NoHead next number body = ⊥
+IsRecordReason fault.Renamed next number body = ⊥
+IsRecordReason fault.AnotherSite next number body = ⊥
+IsRecordReason (fault.Damaged _) next number body = ⊥
+
+-- Why the record that should come next, with this number, isn't taken: it is none, and the octets don't end there; it has another
+-- number, or there is no number for it; it can't be read; or it has another reply.
+abbrev pub IsNextReason : ResumeFault → ℕ → List ℕ → Type 0
+IsNextReason (fault.Damaged n) next left = (n ≡ next) × NoRecord left × (IsEnd left → ⊥)
+IsNextReason (fault.Misplaced n) next left = ((number : ℕ) × (body : List ℕ) × (behind : List ℕ) × BeginsWith left number body behind × (number ≢ next)) ⊎ (2 ^ 64 ≤ next + 1)
+IsNextReason (fault.Unreadable n) next left = (n ≡ next) × (body : List ℕ) × (behind : List ℕ) × BeginsWith left next body behind × IsUnreadable body
+IsNextReason (fault.OtherReply n) next left = (n ≡ next) × (body : List ℕ) × (behind : List ℕ) × BeginsWith left next body behind × (IsUnreadable body → ⊥)
+IsNextReason fault.NoMemory next left = ⊤
+IsNextReason (fault.File _) next left = ⊥
+IsNextReason fault.NoHead next left = ⊥
+IsNextReason fault.Renamed next left = ⊥
+IsNextReason fault.AnotherSite next left = ⊥
+
+-- behind whole records, the first of which has this number, there is a reason
+abbrev pub IsReasonBehind : ResumeFault → ℕ → List ℕ → Type 0
+IsReasonBehind fault first octets = (records : List Numbered) × (left : List ℕ) × (octets ≡ records_text records ++ left) × IsNextReason fault (first + length records) left
+
+-- what stands behind the first line begins with no record, or with one of another number
+abbrev pub IsHeadReason : ResumeFault → ℕ → List ℕ → Type 0
+IsHeadReason fault.NoHead number octets = NoRecord octets
+IsHeadReason fault.Renamed number octets = (n : ℕ) × (body : List ℕ) × (behind : List ℕ) × BeginsWith octets n body behind × (n ≢ number)
+IsHeadReason (fault.File _) number octets = ⊥
+IsHeadReason fault.AnotherSite number octets = ⊥
+IsHeadReason (fault.Damaged _) number octets = ⊥
+IsHeadReason (fault.Misplaced _) number octets = ⊥
+IsHeadReason (fault.Unreadable _) number octets = ⊥
+IsHeadReason (fault.OtherReply _) number octets = ⊥
+IsHeadReason fault.NoMemory number octets = ⊥
+
+-- there is a reason behind the first line
+abbrev pub BehindFirstLine : List ℕ → (List ℕ → Type 0) → Type 0
+BehindFirstLine octets P = (behind : List ℕ) × (octets ≡ first_line ++ behind) × P behind
+
+-- Why a file is refused that has this number in its name.
+abbrev pub IsReason : ResumeFault → ℕ → ℕ → List ℕ → Type 0
+IsReason (fault.File file.NotAJournal) sum number octets = Begins kind octets → ⊥
+IsReason (fault.File file.UnknownVersion) sum number octets = Begins kind octets × (Begins first_line octets → ⊥)
+IsReason fault.NoHead sum number octets = BehindFirstLine octets (IsHeadReason fault.NoHead number)
+IsReason fault.Renamed sum number octets = BehindFirstLine octets (IsHeadReason fault.Renamed number)
+IsReason fault.AnotherSite sum number octets = BehindFirstLine octets (λ text. (head : List ℕ) × (behind : List ℕ) × BeginsWith text number head behind × (BeginsWithLine (site_line sum) head → ⊥))
+IsReason (fault.Damaged n) sum number octets = BehindFirstLine octets (IsReasonBehind (fault.Damaged n) number)
+IsReason (fault.Misplaced n) sum number octets = BehindFirstLine octets (IsReasonBehind (fault.Misplaced n) number)
+IsReason (fault.Unreadable n) sum number octets = BehindFirstLine octets (IsReasonBehind (fault.Unreadable n) number)
+IsReason (fault.OtherReply n) sum number octets = BehindFirstLine octets (IsReasonBehind (fault.OtherReply n) number)
+IsReason fault.NoMemory sum number octets = ⊤
