@@ -10,12 +10,12 @@ loop-place-preserved c =
     let within : i < length xs = omega (arith, c.loop-place-test.true) in
     elim c.if-octets-place-ne0.branch [
       | then-octets-place-ne0 w ↦
-        let some : get_or xs i 0 ≢ 0 = λ e. grind (arith, w.if-octets-place-ne0.true, e) in
-        record { front = ap (λ n. take n xs) w.length-is ∙ other_at xs i within some; within = omega (arith, w.length-is) }
+          let some : get_or xs i 0 ≢ 0 = λ e. grind (arith, w.if-octets-place-ne0.true, e) in
+          record { front = ap (λ n. take n xs) w.length-is ∙ other_at xs i within some; within = omega (arith, w.length-is) }
       | else-octets-place-ne0 w ↦
-        let is : get_or xs i 0 ≡ 0 = grind (arith, w.if-octets-place-ne0.false) in
-        record {
-          front = ap (λ n. take n xs) w.length-is ∙ zero_at xs i c.loop-place.length within is c.loop-place.invariant.front;
-          within = omega (arith, w.length-is, c.loop-place.invariant.within);
-        }
+          let is : get_or xs i 0 ≡ 0 = grind (arith, w.if-octets-place-ne0.false) in
+          record {
+            front = ap (λ n. take n xs) w.length-is ∙ zero_at xs i c.loop-place.length within is c.loop-place.invariant.front;
+            within = omega (arith, w.length-is, c.loop-place.invariant.within);
+          }
     ]

@@ -23,8 +23,8 @@ returns-in_err-taken-clause-reason g c =
     let so_far = c.loop-next.resumed in
     let why = c.in_err-taken.field-0.0 in
     handed_on c.from_residual.result why _ c.from_residual.ensures.1
-        (reason_so_far why c.args.opening c.args.number c.args.octets.now so_far.book so_far.last c.loop-next.next so_far.left.now
-        c.loop-next.invariant.so_far c.loop-next.invariant.next c.in_err-taken.ensures.reason)
+    (reason_so_far why c.args.opening c.args.number c.args.octets.now so_far.book so_far.last c.loop-next.next so_far.left.now
+    c.loop-next.invariant.so_far c.loop-next.invariant.next c.in_err-taken.ensures.reason)
 
 pub returns-in_err-take_record-clause-reason : goal.returns-in_err-take_record-clause-reason
 returns-in_err-take_record-clause-reason g c =
@@ -33,9 +33,9 @@ returns-in_err-take_record-clause-reason g c =
     let why = c.in_err-take_record.field-0.0 in
     let begins = rw c.in-Some-2.is at c.in_ok-taken.ensures.next in
     handed_on c.from_residual-in_err-take_record.result why _ c.from_residual-in_err-take_record.ensures.1
-        (reason_so_far why c.args.opening c.args.number c.args.octets.now so_far.book so_far.last c.loop-next.next so_far.left.now
-        c.loop-next.invariant.so_far c.loop-next.invariant.next
-        (record_reason why c.loop-next.next taken.number so_far.left.now taken.body.now taken.behind.now begins c.in_err-take_record.ensures.reason))
+    (reason_so_far why c.args.opening c.args.number c.args.octets.now so_far.book so_far.last c.loop-next.next so_far.left.now
+    c.loop-next.invariant.so_far c.loop-next.invariant.next
+    (record_reason why c.loop-next.next taken.number so_far.left.now taken.body.now taken.behind.now begins c.in_err-take_record.ensures.reason))
 
 pub returns-clause-reason : goal.returns-clause-reason
 returns-clause-reason g c =
