@@ -3,7 +3,9 @@ use Rattle.std.proofs.Common.{◌≡◌, ◌≢◌, ◌⊎◌, inl, inr, ◌+◌
 use Rattle.std.proofs.lemmas.List.{take_at, take-append-drop}
 use Rattle.radio_book.specs.State.{State}
 use Rattle.journal_records.specs.Records.{record_text, BeginsWith}
-use Rattle.journal_records.specs.Files.{first_line}
+use Rattle.journal_records.specs.declared.file.FileFault.{FileFault}
+use Rattle.journal_records.specs.declared.file.FileFault.TheVariants as file
+use Rattle.journal_records.specs.Files.{kind, first_line, Begins}
 use Rattle.journal_resume.specs.declared.resuming.ResumeFault.{ResumeFault}
 use Rattle.journal_resume.specs.declared.resuming.ResumeFault.TheVariants as fault
 use Rattle.journal_resume.specs.Heads.{BeginsWithLine}
@@ -76,6 +78,13 @@ file_reason (fault.File _) sum number octets behind line (records, left, text, w
 file_reason fault.NoHead sum number octets behind line (records, left, text, why) = absurd why
 file_reason fault.Renamed sum number octets behind line (records, left, text, why) = absurd why
 file_reason fault.AnotherSite sum number octets behind line (records, left, text, why) = absurd why
+
+-- by the first line
+pub kind_reason : {T : Type 0} (r : Result T FileFault) (f : FileFault) (sum number : ℕ) (octets : List ℕ) → r ≡ Err f →
+    (r ≡ Err file.NotAJournal → Begins kind octets → ⊥) → (r ≡ Err file.UnknownVersion → Begins kind octets × (Begins first_line octets → ⊥)) →
+    IsReason (fault.File f) sum number octets
+kind_reason r file.NotAJournal sum number octets is other version = other is
+kind_reason r file.UnknownVersion sum number octets is other version = version is
 
 pub head_reason : (f : ResumeFault) (sum number : ℕ) (octets behind : List ℕ) → octets ≡ first_line ++ behind → IsHeadReason f number behind → IsReason f sum number octets
 head_reason fault.NoHead sum number octets behind line why = (behind, line, why)
