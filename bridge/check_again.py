@@ -18,6 +18,8 @@ from test_controller import record
 CONTROLLER = FOLDER / "test_controller.py"
 STAGES = ("noted", "torn", "1", "2", "99")
 OFTEN = ("--again", "1000")
+# However long it then takes until each line is done, no timer runs out.
+UNHURRIED = [word for name in ("answer", "t3103", "t7", "t8", "repeat") for word in (f"--{name}", "10000")]
 # So many lines a script has at most.
 LINES = 100
 # How many lines more than fill what is left of a page of a full disk.
@@ -141,7 +143,7 @@ def killed_at(stage):
             inner = room / name
             inner.mkdir()
             plan(inner / "journal", *places)
-            bridge = start("--log", inner / "log", *OFTEN, core=command_in(inner, program))
+            bridge = start("--log", inner / "log", *OFTEN, *UNHURRIED, core=command_in(inner, program))
             results.append(played(bridge, inner, program))
         kills = sum("is started again" in line for line in bridge.said.lines)
         lines = sum(line.startswith(("in ", "line ")) for line in bridge.out.lines)
@@ -163,7 +165,7 @@ def really_killed(start, room, program):
         inner = room / name
         inner.mkdir()
         core = (program, "live", SITE, "--journal", inner / "journal")
-        bridge = start("--log", inner / "log", *OFTEN, core=core)
+        bridge = start("--log", inner / "log", *OFTEN, *UNHURRIED, core=core)
         if name == "killed":
             threading.Thread(target=lambda it=bridge: kill_often(it), daemon=True).start()
         results.append(played(bridge, inner, program))

@@ -10,15 +10,15 @@ from check_again import OFTEN, book, compare, controller, everywhere, needs_jour
 from check_moves import begin_moving
 from harness import FOLDER, LIMIT, child, must
 from load import LoadStation, SpeakingCentre
-from network_harness import FIRST, SECOND, clear, emptied, register, said, say, sent
+from network_harness import FIRST, OF_CENTRE, OF_GATEWAY, OF_MOBILES, SECOND, clear, emptied, register, said, say, sent
 from speech_harness import deleted, joined, speak, start_call
 
 # What is asked of the gateway: numbers of transactions, calls and sessions differ from run to run.
 NUMBERS = re.compile(r"(?<=CX )\d+|(?<=C: )[0-9a-f]+|(?<=o=- )\d+")
 # Stages at which the controller is killed at each line.
 STAGES = ("noted", "1", "99")
-# However long a run takes, the gateway isn't looked at meanwhile.
-SELDOM = {"gateway-audit": 100_000}
+# However long it takes until each line is done, no timer runs out, and the gateway isn't looked at meanwhile.
+UNHURRIED = {name: 10_000 for name in ("answer", "t3103", "t7", "t8", *OF_MOBILES, *OF_CENTRE, *OF_GATEWAY)}
 # How many calls there are in each cell, under load.
 LOAD = 50
 
@@ -103,7 +103,7 @@ def in_a_network(play, stage):
             inner.mkdir()
             plan(inner / "journal", *places)
             core = (controller(inner, program), "live", "--journal", inner / "journal")
-            run = start(words=("--log", inner / "log", *OFTEN), core=core, folder=inner, **SELDOM)
+            run = start(words=("--log", inner / "log", *OFTEN), core=core, folder=inner, **UNHURRIED)
             results.append(play(Script(run, inner, program)))
         kills = sum("is started again" in line for line in run.said.lines)
         must(kills > sum(line.startswith("in ") for line in run.out.lines), f"it was killed {kills} times")
