@@ -6,6 +6,7 @@ use ho_procedure::exchange::{Inbound, Outbound};
 use lab_runs::turn::{Answer, Source, Turn};
 use lab_script::script::Side;
 use line_words::{Content, content_of};
+use rr_elements::{CellDescription, ChanDescription};
 use rr_messages::{Rr, decode};
 use rsl_messages::Rsl;
 use std::alloc::{AllocError, Allocator};
@@ -78,25 +79,35 @@ pub(crate) fn use_of<A: Allocator + Copy>(site: &Site<A>, chan: ChanId, act: Act
     }
 }
 
+/// The channel that these elements of a HANDOVER COMMAND name.
+fn named_by(cell: &CellDescription, channel: &ChanDescription) -> Target {
+    Target {
+        bcch: cell.arfcn(),
+        ncc: cell.ncc(),
+        bcc: cell.bcc(),
+        carrier: channel.carrier(),
+        tn: channel.tn(),
+        sub: channel.sub(),
+    }
+}
+
+/// Where a message sends a mobile.
+fn sent_by(message: &Rr) -> Option<Target> {
+    match message {
+        Rr::HandoverCommand { cell, channel, .. } => Some(named_by(cell, channel)),
+        Rr::HandoverComplete(_)
+        | Rr::HandoverFailure(_)
+        | Rr::ChannelRelease(_)
+        | Rr::PhysicalInformation(_)
+        | Rr::MeasurementReport(_) => None,
+    }
+}
+
 /// Where octets send a mobile that are a HANDOVER COMMAND.
 fn target_in(octets: &[u8]) -> Option<Target> {
     match decode(octets) {
-        Ok(Rr::HandoverCommand { cell, channel, .. }) => Some(Target {
-            bcch: cell.arfcn(),
-            ncc: cell.ncc(),
-            bcc: cell.bcc(),
-            carrier: channel.carrier(),
-            tn: channel.tn(),
-            sub: channel.sub(),
-        }),
-        Ok(
-            Rr::HandoverComplete(_)
-            | Rr::HandoverFailure(_)
-            | Rr::ChannelRelease(_)
-            | Rr::PhysicalInformation(_)
-            | Rr::MeasurementReport(_),
-        )
-        | Err(_) => None,
+        Ok(message) => sent_by(&message),
+        Err(_) => None,
     }
 }
 
