@@ -17,6 +17,7 @@ use radio_book::book::Book;
 use run_views::{LiveViewer, Views, open_sheets};
 use screen_text::Reason;
 use std::alloc::{AllocError, Global};
+use std::fs::OpenFile;
 use std::io::{BufRead, BufReader, Read, Write};
 use std::rt::Files;
 use std::sync::Arc;
@@ -112,6 +113,15 @@ fn rules_behind(last: u64, entries: usize) -> Rules {
     }
 }
 
+/// The viewer, once what it tells begins with a book.
+fn begun_with<'a, 'p, W: Write, F: Write + OpenFile + Drop>(
+    mut viewer: LiveViewer<'a, 'p, W, F>,
+    book: &Book<Global>,
+) -> Result<LiveViewer<'a, 'p, W, F>, AllocError> {
+    let begun = viewer.begin_with(book);
+    begun.map(|()| viewer)
+}
+
 /// The same with a journal that was opened.
 fn live_journaled<R: Files + AllocGlobal, I: BufRead + LineReader, W: Write, E: Write>(
     rt: &R,
@@ -137,8 +147,8 @@ where
     } = opened;
     let rules = rules_behind(journal.last(), asked.entries);
     let mut held = Held::new(alloc, out);
-    let mut viewer = LiveViewer::new(alloc, asked.views, sheets, &mut held, errors)?;
-    viewer.begin_with(&book)?;
+    let viewer = LiveViewer::new(alloc, asked.views, sheets, &mut held, errors)?;
+    let viewer = begun_with(viewer, &book)?;
     let mut journaled = Journaled::new(
         alloc,
         viewer,
