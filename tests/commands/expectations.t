@@ -256,7 +256,6 @@ A line can begin so: it may end within a word, or a message may be in part.
   > #! fault abis 3 26
   > #! sim limit
   > #! end channels=0
-  > #! out a
   > #! out abis 1 0 CHANNEL ACTI
   > #! out abis 0 0 CHANNEL ACTIVATION tn=7 act
   > #! out abis 0 0 CHANNEL ACTIVATION reference=7 tn=3

@@ -1,8 +1,8 @@
 Random events, with what is left of them without the attempts that were undone: what the program says, and what a plain book
-says that the test has of its own.
+says that the test has of its own; of twelve lists of events, and of the traces of twelve scripts.
 
   $ tests/random_events ./lab
-  12 lists of random events met, 0 not
+  24 lists of random events met, 0 not
 
 Ten thousand lists, with halves of timeslots among their channels, of which the replies alone are compared.
 
