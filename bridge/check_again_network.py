@@ -127,12 +127,13 @@ def killed_under_load(start, room, program):
         must(station.known.wait(LIMIT), f"{station.unit} isn't acknowledged")
     for station in stations:
         station.begin()
-    chance, count, printed = random.Random(75), 0, 0
-    while not all(station.done.wait(chance.random()) for station in stations):
-        if len(run.out.lines) == printed:
-            # one that has done nothing yet is let begin
+    chance, count = random.Random(75), 0
+    until = chance.randrange(10, 60)
+    while not all(station.done.wait(0.001) for station in stations):
+        if len(run.out.lines) < until:
+            # so much it does yet until it is killed, however fast it is
             continue
-        printed = len(run.out.lines)
+        until = len(run.out.lines) + chance.randrange(10, 60)
         with contextlib.suppress(IndexError, ProcessLookupError):
             os.kill(child(run), signal.SIGKILL)
             count += 1

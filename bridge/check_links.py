@@ -182,7 +182,8 @@ def many_messages(start, _room, _program):
     bridge = start()
     one, other = bridge.station(FIRST), bridge.station(SECOND, trx=1)
     threads = [
-        threading.Thread(target=station.send, args=(ipa.frame(station.trx, bytes.fromhex("0828010b")) * 2_000,))
+        threading.Thread(target=station.send, args=(ipa.frame(station.trx, bytes.fromhex("0828010b")) * 2_000
+            + ipa.frame(station.trx, bytes.fromhex("0828010c")),))
         for station in (one, other)
     ]
     for thread in threads:
@@ -191,6 +192,9 @@ def many_messages(start, _room, _program):
         thread.join(LIMIT)
     bridge.ask("open 1 0 0 3")
     bridge.expect("record 0/0/3 on$")
+    # the last of each station, in either order: what comes behind the end isn't given to the controller
+    for place in ("0 0", "1 1"):
+        bridge.out.find(f"^in abis {place} 0828010c$", 0)
     bridge.end()
     came = sum("in abis" in line and line.endswith(" 0828010b") for line in bridge.out.lines)
     must(came == 4_000, f"{came} messages came")
