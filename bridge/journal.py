@@ -1,5 +1,6 @@
 """The journal of a controller (docs/JOURNAL.md), as far as the bridge reads it: what came of each line, which the controller
 noted before anything of that left. The controller has looked whether it is whole."""
+import itertools
 import pathlib
 import re
 
@@ -26,9 +27,12 @@ class Journal:
     @classmethod
     def of(cls, command):
         """That of a controller's command; None where it has none."""
-        if "--journal" not in command[:-1]:
-            return None
-        return cls(command[command.index("--journal") + 1])
+        for word, behind in itertools.pairwise([*command, ""]):
+            if word == "--journal" and behind:
+                return cls(behind)
+            if word.startswith("--journal="):
+                return cls(word.partition("=")[2])
+        return None
 
     def files(self):
         """Its files, the oldest first, each with the number of the line behind which it begins."""

@@ -175,9 +175,9 @@ Its folder may lie in one that may not be read. That is told where a journal beg
   $ unread() { if [ "$(id -u)" = 0 ]; then setpriv --bounding-set=-dac_override,-dac_read_search "$@"; else "$@"; fi; }
   $ mkdir -p above/v; chmod 300 above
   $ for word in v v new; do unread ./lab live examples/two_cells.toml --journal above/$word </dev/null 2>&1 >/dev/null; done
-  above/v: the folder above may not be read, nor so synced: if power fails, this one may be lost
+  above/v: the folder above can't be synced: if power fails, this one may be lost
   resumed after line 0: channels=0 calls=0
-  above/new: the folder above may not be read, nor so synced: if power fails, this one may be lost
+  above/new: the folder above can't be synced: if power fails, this one may be lost
   $ chmod 700 above
 
 With a short history files are begun, each with the events that lead to its book, and audit reads each as a trace.
@@ -236,8 +236,20 @@ Where lines are missing between files that isn't passed over in silence.
 
   $ cp -r q y; rm y/00000000000000000002.journal
   $ ./lab live examples/two_cells.toml --journal y --heard 1 </dev/null 2>&1
-  resumed after line 5: channels=1 calls=1
-  y/00000000000000000000.journal: no file has the lines behind its last record
+  y/00000000000000000000.journal: it doesn't have each line up to the next file once
+  [2]
+
+So where a file before the last one lacks a line.
+
+  $ cp -r q yy; cat >without <<'END'
+  > import sys
+  > text = open(sys.argv[1]).read()
+  > at, behind = text.index("record 00000000000000000001 "), text.index("record 00000000000000000002 ")
+  > open(sys.argv[1], "w").write(text[:at] + text[behind:])
+  > END
+  $ python3 without yy/00000000000000000000.journal
+  $ ./lab live examples/two_cells.toml --journal yy --heard 0 </dev/null
+  yy/00000000000000000000.journal: it doesn't have each line up to the next file once
   [2]
 
 An old file that somebody removed hinders none.

@@ -52,16 +52,16 @@ fn is_glued(text: &str) -> bool {
     }
 }
 
-/// Whether a text begins with one of the other marks, and a letter stands behind that.
+/// Whether a text begins with one of the other marks, and a letter, a digit or a tab stands behind that.
 fn is_glued_mark(text: &str) -> bool {
     match text.as_bytes() {
-        [b'!' | b'=', letter, ..] => letter.is_ascii_alphabetic(),
+        [b'!' | b'=', octet, ..] => octet.is_ascii_alphanumeric() || *octet == b'\t',
         _ => false,
     }
 }
 
 /// Whether a comment looks like one that was to expect something, but for a blank that is missing or too many: `# >`, `#>`
-/// without its blank, and so `#!` or `#=` before a letter.
+/// without its blank, and so `#!` or `#=` before a letter, a digit or a tab.
 ///
 /// No clause says which do: nothing but a line for a person hangs on it.
 pub fn is_slipped(line: &str) -> bool {

@@ -26,6 +26,8 @@ pub enum Cause {
     NoChannel(ChanId),
     /// Nothing happens behind it on the channel that it names.
     Unused(ChanId),
+    /// Another takes its place on the channel that it names, before anything happens there.
+    Again(ChanId),
     /// It asks the book of its controller in vain.
     Unmet(Unmet),
 }
@@ -263,6 +265,18 @@ fn is_unclear(behind: &[Line]) -> bool {
     false
 }
 
+/// Whether a setting takes the place of another on its channel. What is kept back adds up.
+fn takes_place(by: Setting, of: Setting) -> bool {
+    let is_same_act = match of.act {
+        Act::Mobile(_) => matches!(by.act, Act::Mobile(_)),
+        Act::Cut(_) => matches!(by.act, Act::Cut(_)),
+        Act::Double => by.act == Act::Double,
+        Act::Refuse => by.act == Act::Refuse,
+        Act::Hold(_) | Act::Release => false,
+    };
+    is_same_act && chan_of(by) == chan_of(of)
+}
+
 /// What comes of a script's settings, as far as its lines were looked at.
 #[derive(Drop)]
 struct Search<'a, A: Allocator + Copy> {
@@ -275,15 +289,16 @@ struct Search<'a, A: Allocator + Copy> {
 }
 
 impl<A: Allocator + Copy> Search<'_, A> {
-    /// Looks at a setting; these lines stand behind it.
+    /// Looks at the setting of the line of this place; these lines stand behind it.
     fn look_at(
         &mut self,
         number: usize,
+        place: usize,
         side: Side,
         setting: Setting,
         behind: &[Line],
     ) -> Result<(), AllocError> {
-        if let Some(cause) = self.cause_of(side, setting, behind)? {
+        if let Some(cause) = self.cause_of(place, side, setting, behind)? {
             self.idle.push(Idle {
                 line: number,
                 cause,
@@ -292,9 +307,28 @@ impl<A: Allocator + Copy> Search<'_, A> {
         Ok(())
     }
 
-    /// Why a setting, behind which these lines stand, comes to nothing, where it does.
+    /// Whether one of the lines that stand behind that of this place has a setting in the place of this one, before anything comes.
+    fn is_said_again(&self, place: usize, side: Side, setting: Setting, behind: &[Line]) -> bool {
+        let mut place = place;
+        for line in behind {
+            place = place.saturating_add(1);
+            let (other_side, other) = match line.kind {
+                Kind::Input | Kind::Other => return false,
+                Kind::Setting(_, setting) if setting.act == Act::Release => return false,
+                Kind::Setting(side, setting) => (side, Some(setting)),
+                Kind::OfCall(side) => (side, self.heard.setting_at(place)),
+            };
+            if other_side == side && other.is_some_and(|other| takes_place(other, setting)) {
+                return true;
+            }
+        }
+        false
+    }
+
+    /// Why the setting of the line of this place, behind which these lines stand, comes to nothing, where it does.
     fn cause_of(
         &self,
+        place: usize,
         side: Side,
         setting: Setting,
         behind: &[Line],
@@ -303,6 +337,9 @@ impl<A: Allocator + Copy> Search<'_, A> {
         let Some(site) = site_with(self.controllers, side, chan) else {
             return Ok(Some(Cause::NoChannel(chan)));
         };
+        if self.is_said_again(place, side, setting, behind) {
+            return Ok(Some(Cause::Again(chan)));
+        }
         let needed = use_of(site, chan, setting.act);
         if is_unclear(behind) || is_used(self.alloc, self.turns, side, chan, needed)? {
             Ok(None)
@@ -320,7 +357,7 @@ impl<A: Allocator + Copy> Search<'_, A> {
         behind: &[Line],
     ) -> Result<(), AllocError> {
         match self.heard.setting_at(place) {
-            Some(setting) => self.look_at(line.number, side, setting, behind),
+            Some(setting) => self.look_at(line.number, place, side, setting, behind),
             None => self.note_unmet(line.number, place),
         }
     }
@@ -352,7 +389,7 @@ impl<A: Allocator + Copy> Search<'_, A> {
         while let [line, behind @ ..] = rest {
             match line.kind {
                 Kind::Setting(side, setting) => {
-                    self.look_at(line.number, side, setting, behind)?;
+                    self.look_at(line.number, place, side, setting, behind)?;
                 }
                 Kind::OfCall(side) => self.look_at_call(*line, side, place, behind)?,
                 Kind::Input | Kind::Other => {
@@ -406,8 +443,8 @@ fn idle_in<A: Allocator + Copy>(
     Ok(search.idle)
 }
 
-/// The lines of a script that come to nothing over sites, in their order: settings for a channel that the site lacks, and those
-/// behind which nothing happens that they are about; lines that ask a controller's book in vain. Nothing is said of a script
+/// The lines of a script that come to nothing over sites, in their order: settings for a channel that the site lacks, those
+/// behind which nothing happens that they are about, and those in whose place another comes before; lines that ask a controller's book in vain. Nothing is said of a script
 /// that can't be read, and one without such lines isn't run.
 pub fn idle_settings<A: Allocator + Copy>(
     alloc: A,

@@ -49,7 +49,7 @@ pub(crate) enum Use {
     Arrival(Target),
     /// An answer.
     Answer,
-    /// An answer, of which so many octets are left: these may not say any more which channel it is about.
+    /// An answer that has so many octets: these may not say any more which channel it is about.
     Cut(u8),
 }
 
@@ -169,6 +169,21 @@ fn is_answer<A: Allocator + Copy>(
     }
 }
 
+/// Whether an input of a simulator may be an answer about a channel: it doesn't say that it is about another.
+fn may_be_answer<A: Allocator + Copy>(
+    alloc: A,
+    turn: &Turn<A>,
+    chan: ChanId,
+) -> Result<bool, AllocError> {
+    match content_of(alloc, &TraceLine::Input(&turn.input))? {
+        Content::Abis(place, _) | Content::Rowless(place, _) => {
+            Ok(place.chan.is_none() || place.chan == Some(chan))
+        }
+        Content::A(..) => Ok(false),
+        Content::Nothing => Ok(true),
+    }
+}
+
 /// Whether one of the messages that are sent is what is needed.
 fn has_use<A: Allocator + Copy>(
     alloc: A,
@@ -222,7 +237,9 @@ fn uses<A: Allocator + Copy>(
             sends(alloc, turn, chan, needed)
         }
         Use::Answer => is_answer(alloc, turn, chan),
-        Use::Cut(octets) => { Ok(has_octets(turn, chan, octets) || is_answer(alloc, turn, chan)?) }
+        Use::Cut(octets) => {
+            Ok(has_octets(turn, chan, octets) && may_be_answer(alloc, turn, chan)?)
+        }
     }
 }
 

@@ -3,6 +3,7 @@ use crate::names::{BEGUN, LOCK, is_beside, number_of, path_of, span_path};
 use std::alloc::{AllocError, Global};
 use std::fs::{self, File, OpenFile, OpenOptions, TryLockError};
 use std::io::{self, Read, Write};
+use std::os::unix::fs::OpenOptionsExt;
 use std::rt::Files;
 use std::str;
 
@@ -31,6 +32,14 @@ pub struct Listing {
     pub others: Vec<String>,
 }
 
+/// A folder that one controller has for itself, as long as both are open: the folder, and the file `lock` in it. Who removes that
+/// file doesn't give the folder away.
+#[derive(Drop)]
+pub struct Locked<F> {
+    _folder: F,
+    _file: F,
+}
+
 /// The folder of a journal.
 #[derive(Drop)]
 pub struct Folder<'a, R: Files + AllocGlobal> {
@@ -49,6 +58,9 @@ fn parent_of(path: &str) -> &str {
 
 /// How many octets of names are read at once.
 const NAMES: usize = 8_192;
+
+/// Its owner alone may read and write a file.
+const FOR_OWNER: u32 = 0o600;
 
 /// The name that octets are, with what isn't UTF-8 replaced.
 fn shown_name(alloc: Global, name: &[u8]) -> Result<String, AllocError> {
@@ -85,6 +97,12 @@ fn names_in<D: Read>(alloc: Global, dir: &mut D) -> io::Result<Vec<u8>> {
     Ok(names)
 }
 
+/// Writes the octets of a file, and has them on the disk.
+fn write_synced<F: Write + OpenFile>(file: &mut F, octets: &[u8]) -> io::Result<()> {
+    file.write_all(octets)?;
+    file.sync_all()
+}
+
 impl<'a, R: Files + AllocGlobal> Folder<'a, R> {
     /// The folder of this path.
     pub fn new(rt: &'a R, path: &'a str) -> Folder<'a, R> {
@@ -92,35 +110,59 @@ impl<'a, R: Files + AllocGlobal> Folder<'a, R> {
     }
 
     /// Makes the folder, and those above it, unless it is there, and has its name on the disk. The answer is whether it has:
-    /// not where the folder above may not be read, which only who reads it can sync.
+    /// not where the folder above can't be synced. Who may not read it can't, and nobody can on some file systems.
     pub fn make(&self) -> io::Result<bool> {
         if self.path.is_empty() {
             return Err(io::Error::from(io::ErrorKind::NotFound));
         }
         fs::create_dir_all(self.rt, self.path)?;
         match File::open(self.rt, parent_of(self.path)) {
-            Ok(parent) => {
-                parent.sync_all()?;
-                Ok(true)
-            }
+            Ok(parent) => match parent.sync_all() {
+                Ok(()) => Ok(true),
+                Err(error) if error.kind() == io::ErrorKind::InvalidInput => Ok(false),
+                Err(error) => Err(error),
+            },
             Err(error) if error.kind() == io::ErrorKind::PermissionDenied => Ok(false),
             Err(error) => Err(error),
         }
     }
 
-    /// Opens the file by which the folder is locked, and has it for itself; nothing where another process has it. The folder
-    /// is locked as long as the file is open.
-    pub fn lock(&self) -> io::Result<Option<R::File>>
+    /// The path of the file by which the folder is locked.
+    pub fn lock_path(&self) -> Result<String, AllocError> {
+        path_of(self.rt.alloc(), self.path, LOCK)
+    }
+
+    /// Refuses what is no file, as `InvalidInput`: opened, a pipe would have the controller wait for ever. (A folder is refused as
+    /// it is opened.)
+    fn refuse_endless(&self, path: &str) -> io::Result<()> {
+        match self.rt.metadata(path) {
+            Ok(it) if !it.is_file() && !it.is_dir() => {
+                Err(io::Error::from(io::ErrorKind::InvalidInput))
+            }
+            _ => Ok(()),
+        }
+    }
+
+    /// Opens the folder and the file by which it is locked, and has both for itself; nothing where another process has one. Of
+    /// some file systems folders can't be had: then the file alone is.
+    pub fn lock(&self) -> io::Result<Option<Locked<R::File>>>
     where
         R::File: Locking,
     {
-        let path = path_of(self.rt.alloc(), self.path, LOCK)?;
+        let path = self.lock_path()?;
+        self.refuse_endless(&path)?;
         let file = OpenOptions::new()
             .write(true)
             .create(true)
+            .mode(FOR_OWNER)
             .open(self.rt, path.as_str())?;
-        if file.hold()? {
-            Ok(Some(file))
+        let folder = File::open(self.rt, self.path)?;
+        let is_free = folder.hold().unwrap_or(true);
+        if is_free && file.hold()? {
+            Ok(Some(Locked {
+                _folder: folder,
+                _file: file,
+            }))
         } else {
             Ok(None)
         }
@@ -148,9 +190,10 @@ impl<'a, R: Files + AllocGlobal> Folder<'a, R> {
         span_path(self.rt.alloc(), self.path, number)
     }
 
-    /// All octets of the file that begins behind a line.
+    /// All octets of the file that begins behind a line; `InvalidInput` where it is none.
     pub fn read_span(&self, number: u64) -> io::Result<Vec<u8>> {
         let path = self.span_path(number)?;
+        self.refuse_endless(&path)?;
         let mut file = File::open(self.rt, path.as_str())?;
         let mut octets = Vec::new(self.rt.alloc());
         file.read_to_end(&mut octets)?;
@@ -158,7 +201,7 @@ impl<'a, R: Files + AllocGlobal> Folder<'a, R> {
     }
 
     /// Writes a file under a name of its own, and has it on the disk. What has that name goes first, so that nothing is written
-    /// through a link.
+    /// through a link; and the file goes that can't be written, so that it takes no room.
     pub(crate) fn write_begun(&self, octets: &[u8]) -> io::Result<R::File> {
         let path = path_of(self.rt.alloc(), self.path, BEGUN)?;
         // where it stays, the file isn't made
@@ -166,10 +209,15 @@ impl<'a, R: Files + AllocGlobal> Folder<'a, R> {
         let mut file = OpenOptions::new()
             .write(true)
             .create_new(true)
+            .mode(FOR_OWNER)
             .open(self.rt, path.as_str())?;
-        file.write_all(octets)?;
-        file.sync_all()?;
-        Ok(file)
+        match write_synced(&mut file, octets) {
+            Ok(()) => Ok(file),
+            Err(error) => {
+                let _gone = fs::remove_file(self.rt, path.as_str());
+                Err(error)
+            }
+        }
     }
 
     /// Gives the file that was begun its name, and has that on the disk.

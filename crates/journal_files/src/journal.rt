@@ -21,6 +21,9 @@ pub enum BeginFault {
 /// How many octets of records wait at most, before they are put on the disk.
 const MOST_WAITING: usize = 65_536;
 
+/// How many octets a file has before the next is begun: half of the most that are read of a trace.
+const LONG: u64 = 32 << 20;
+
 /// Puts what waits on the disk.
 fn put_down<F: Write + OpenFile>(file: &mut F, waiting: &mut Vec<u8>) -> io::Result<()>
     ensures written { OnOk result (Appends (F.contents file.old) (F.contents file.new) waiting.old.items) }
@@ -46,6 +49,8 @@ pub struct Journal<'a, R: Files + AllocGlobal> {
     last: u64,
     /// Behind which line they are counted.
     counted_from: u64,
+    /// How many octets were noted since then, with those that the file had before.
+    octets: u64,
 }
 
 impl<'a, R: Files + AllocGlobal> Journal<'a, R> {
@@ -85,6 +90,7 @@ impl<'a, R: Files + AllocGlobal> Journal<'a, R> {
             waiting: Vec::new(alloc),
             last,
             counted_from: number,
+            octets: octets.len() as u64,
         })
     }
 
@@ -98,9 +104,15 @@ impl<'a, R: Files + AllocGlobal> Journal<'a, R> {
         self.last.saturating_sub(self.counted_from)
     }
 
-    /// Counts the lines anew that are noted.
+    /// Whether the file has so many octets that the next should be begun.
+    pub fn is_long(&self) -> bool {
+        self.octets >= LONG
+    }
+
+    /// Counts the lines and octets anew that are noted.
     pub fn count_anew(&mut self) {
         self.counted_from = self.last;
+        self.octets = 0;
     }
 
     /// Whether so much waits that it should be put on the disk.
@@ -111,7 +123,10 @@ impl<'a, R: Files + AllocGlobal> Journal<'a, R> {
     /// Notes what came of the next line. It waits.
     pub fn note(&mut self, body: &[u8]) -> Result<(), AllocError> {
         let number = self.last.saturating_add(1);
+        let before = self.waiting.len();
         append_record(&mut self.waiting, number, body)?;
+        let more = self.waiting.len().saturating_sub(before);
+        self.octets = self.octets.saturating_add(more as u64);
         self.last = number;
         Ok(())
     }
@@ -141,6 +156,7 @@ impl<'a, R: Files + AllocGlobal> Journal<'a, R> {
             .name_begun(self.last)
             .map_err(BeginFault::Unknown)?;
         self.file = file;
+        self.octets = octets.len() as u64;
         self.spans.push_reserved(self.last);
         Ok(self.remove_old())
     }

@@ -8,6 +8,6 @@ mod journal;
 mod lost;
 mod names;
 
-pub use folder::{Folder, Listing, Locking};
+pub use folder::{Folder, Listing, Locked, Locking};
 pub use journal::{BeginFault, Journal};
 pub use lost::{Lost, WhenLost};

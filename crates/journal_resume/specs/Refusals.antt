@@ -14,6 +14,10 @@ use Rattle.journal_resume.specs.Resume.{Numbered, records_text}
 abbrev pub NoRecord : List ℕ → Type 0
 NoRecord octets = (number : ℕ) (body behind : List ℕ) → BeginsWith octets number body behind → ⊥
 
+-- octets begin with a record of another number
+abbrev pub BeginsWithAnother : ℕ → List ℕ → Type 0
+BeginsWithAnother next octets = (number : ℕ) × (body : List ℕ) × (behind : List ℕ) × BeginsWith octets number body behind × (number ≢ next)
+
 -- a body is no text, or has a line that says no event though it begins as one
 abbrev pub IsUnreadable : List ℕ → Type 0
 IsUnreadable body = (IsUtf8 body → ⊥) ⊎ IsSome (first_unreadable body)
@@ -31,10 +35,10 @@ IsRecordReason fault.AnotherSite next number body = ⊥
 IsRecordReason (fault.Damaged _) next number body = ⊥
 
 -- Why the record that should come next, with this number, isn't taken: it is none, and the octets don't end there; it has another
--- number, or there is no number for it; it can't be read; or it has another reply.
+-- number, or there is no number for it behind the highest, which is said then; it can't be read; or it has another reply.
 abbrev pub IsNextReason : ResumeFault → ℕ → List ℕ → Type 0
 IsNextReason (fault.Damaged n) next left = (n ≡ next) × NoRecord left × (IsEnd left → ⊥)
-IsNextReason (fault.Misplaced n) next left = ((number : ℕ) × (body : List ℕ) × (behind : List ℕ) × BeginsWith left number body behind × (number ≢ next)) ⊎ (2 ^ 64 ≤ next + 1)
+IsNextReason (fault.Misplaced n) next left = ((n ≡ next) × BeginsWithAnother next left) ⊎ ((n + 1 ≡ 2 ^ 64) × (2 ^ 64 ≤ next + 1))
 IsNextReason (fault.Unreadable n) next left = (n ≡ next) × (body : List ℕ) × (behind : List ℕ) × BeginsWith left next body behind × IsUnreadable body
 IsNextReason (fault.OtherReply n) next left = (n ≡ next) × (body : List ℕ) × (behind : List ℕ) × BeginsWith left next body behind × (IsUnreadable body → ⊥)
 IsNextReason fault.NoMemory next left = ⊤
@@ -50,7 +54,7 @@ IsReasonBehind fault first octets = (records : List Numbered) × (left : List �
 -- what stands behind the first line begins with no record, or with one of another number
 abbrev pub IsHeadReason : ResumeFault → ℕ → List ℕ → Type 0
 IsHeadReason fault.NoHead number octets = NoRecord octets
-IsHeadReason fault.Renamed number octets = (n : ℕ) × (body : List ℕ) × (behind : List ℕ) × BeginsWith octets n body behind × (n ≢ number)
+IsHeadReason fault.Renamed number octets = BeginsWithAnother number octets
 IsHeadReason (fault.File _) number octets = ⊥
 IsHeadReason fault.AnotherSite number octets = ⊥
 IsHeadReason (fault.Damaged _) number octets = ⊥

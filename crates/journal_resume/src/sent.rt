@@ -36,15 +36,21 @@ pub fn tell_sent<W: Write>(out: &mut W, octets: &[u8], heard: u64) -> io::Result
     Ok(())
 }
 
-/// The number of the last of some octets' records, if they begin with one.
-pub fn last_number(octets: &[u8]) -> Option<u64> {
+/// The number of the last of some octets' records, if the first has the number `first`, and each other one that behind the one
+/// before.
+pub fn last_number(octets: &[u8], first: u64) -> Option<u64> {
     let mut last = None;
+    let mut next = first;
     let mut left = octets;
     for _ in 0..u64::MAX {
         let Ok(taken) = first_record(left) else {
             return last;
         };
-        last = Some(taken.number);
+        if taken.number != next {
+            return None;
+        }
+        last = Some(next);
+        next = next.saturating_add(1);
         left = taken.behind;
     }
     last

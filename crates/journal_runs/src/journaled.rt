@@ -38,11 +38,12 @@ pub struct Journaled<'a, L, R: Files + AllocGlobal> {
     body: Vec<u8>,
     phase: Phase,
     lost: Option<Lost>,
+    lacks_memory: bool,
 }
 
 impl<'a, L, R: Files + AllocGlobal> Journaled<'a, L, R> {
-    /// One that notes what it hears in a journal, of a folder with this path, and of a site with this checksum. A file has at most
-    /// so many lines, if the next one can be begun.
+    /// One that notes what it hears in a journal, of a folder with this path, and of a site with this checksum. A file ends
+    /// behind so many lines, or behind the line with which it is long, if the next one can be begun.
     pub fn new(
         alloc: Global,
         inner: L,
@@ -63,11 +64,12 @@ impl<'a, L, R: Files + AllocGlobal> Journaled<'a, L, R> {
             body: Vec::new(alloc),
             phase: Phase::Notes,
             lost: None,
+            lacks_memory: false,
         }
     }
 
-    /// The inner listener, and how the journal was lost, if it was.
-    pub fn into_parts(self) -> (L, Option<Lost>) {
+    /// The inner listener; how the journal was lost, if it was; and whether memory was refused for a line that can't be read.
+    pub fn into_parts(self) -> (L, Option<Lost>, bool) {
         let Journaled {
             inner,
             journal: _,
@@ -79,8 +81,9 @@ impl<'a, L, R: Files + AllocGlobal> Journaled<'a, L, R> {
             body: _,
             phase: _,
             lost,
+            lacks_memory,
         } = self;
-        (inner, lost)
+        (inner, lost, lacks_memory)
     }
 
     /// Notes what came of a line.
@@ -190,7 +193,12 @@ impl<L: Listener<Global>, R: Files + AllocGlobal> Listener<Global> for Journaled
     }
 
     fn hear_unreadable(&mut self, line: usize) -> io::Result<()> {
-        Listener::<Global>::hear_unreadable(&mut Printing::new(&mut self.body), line)?;
+        let noted = Listener::<Global>::hear_unreadable(&mut Printing::new(&mut self.body), line);
+        // what is kept in memory lacks nothing but that
+        if noted.is_err() {
+            self.lacks_memory = true;
+        }
+        noted?;
         self.inner.hear_unreadable(line)
     }
 }
@@ -215,7 +223,7 @@ impl<L: LiveListener<Global>, R: Files + AllocGlobal> LiveListener<Global> for J
     }
 
     fn wants_anew(&self) -> bool {
-        self.lost.is_none() && self.lines <= self.journal.lines()
+        self.lost.is_none() && (self.lines <= self.journal.lines() || self.journal.is_long())
     }
 
     fn hear_anew<E: Write>(&mut self, book: &Book<Global>, errors: &mut E) -> Result<(), LabFault> {

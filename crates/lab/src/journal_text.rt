@@ -1,6 +1,6 @@
 //! The text of a trace, which may be a journal's file.
 use crate::files::text_of;
-use journal_records::FileFault;
+use journal_records::{FileFault, behind_first_line, first_record};
 use journal_resume::{WholeFault, whole_octets};
 use lab_runs::run::LabFault;
 use screen_text::Escaped;
@@ -20,6 +20,19 @@ fn whole_length(text: &str) -> Result<usize, WholeFault> {
         Err(WholeFault::File(FileFault::NotAJournal)) => Ok(text.len()),
         Err(fault) => Err(fault),
     }
+}
+
+/// The text behind the head of a journal's file, and how many of its lines stand before that. Of another trace it is all.
+pub(crate) fn behind_head(text: &str) -> (usize, &str) {
+    let Ok(records) = behind_first_line(text.as_bytes()) else {
+        return (0, text);
+    };
+    let Ok(head) = first_record(records) else {
+        return (0, text);
+    };
+    let place = text.len().saturating_sub(head.behind.len());
+    let (front, behind) = text.split_at_checked(place).unwrap_or((text, ""));
+    (front.split('\n').count().saturating_sub(1), behind)
 }
 
 /// Refuses a trace with a byte order mark in front, behind which its first line would be passed over.

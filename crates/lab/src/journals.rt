@@ -1,6 +1,6 @@
 //! The journal of a live controller: opened, and ended.
 use cell_table::Site;
-use journal_files::{Folder, Journal, Listing, Locking, Lost};
+use journal_files::{Folder, Journal, Listing, Locked, Locking, Lost, WhenLost};
 use journal_records::FIRST_LINE;
 use journal_resume::{
     HeadFault, ResumeFault, Resumed, head_body, last_number, resume, tell_sent, whole_octets,
@@ -16,12 +16,12 @@ use std::io::{self, Write};
 use std::rt::Files;
 use std::sync::Arc;
 
-/// A journal that is opened, the book with which the controller goes on, and the file by which the folder is locked.
+/// A journal that is opened, the book with which the controller goes on, and the folder, locked.
 #[derive(Drop)]
 pub(crate) struct Opened<'a, R: Files + AllocGlobal> {
     pub(crate) journal: Journal<'a, R>,
     pub(crate) book: Book,
-    pub(crate) lock: R::File,
+    pub(crate) lock: Locked<R::File>,
 }
 
 /// The book of a file, the number of its last record, and how many octets it has without a record that was cut.
@@ -76,7 +76,7 @@ fn say_unsynced<E: Write>(path: &str, is_named: bool, errors: &mut E) -> Result<
     }
     writeln!(
         errors,
-        "{}: the folder above may not be read, nor so synced: if power fails, this one may be lost",
+        "{}: the folder above can't be synced: if power fails, this one may be lost",
         Escaped(path)
     )
     .map_err(|_| OpenFault::Write)
@@ -131,6 +131,15 @@ fn say_resumed<E: Write>(found: &Found, path: &str, errors: &mut E) -> io::Resul
     )
 }
 
+/// Tells why a file isn't opened or read.
+fn refuse_file<E: Write>(path: &str, error: io::Error, errors: &mut E) -> OpenFault {
+    match error.kind() {
+        io::ErrorKind::OutOfMemory => OpenFault::NoMemory,
+        io::ErrorKind::InvalidInput => refuse(path, "isn't a file", errors),
+        _ => refuse(path, Reason(&error), errors),
+    }
+}
+
 /// The octets of the file that has this number in its name.
 fn octets_of<R: Files + AllocGlobal, E: Write>(
     folder: &Folder<'_, R>,
@@ -140,19 +149,18 @@ fn octets_of<R: Files + AllocGlobal, E: Write>(
 ) -> Result<Vec<u8>, OpenFault> {
     match folder.read_span(number) {
         Ok(octets) => Ok(octets),
-        Err(error) if error.kind() == io::ErrorKind::OutOfMemory => Err(OpenFault::NoMemory),
-        Err(error) => Err(refuse(path, Reason(&error), errors)),
+        Err(error) => Err(refuse_file(path, error, errors)),
     }
 }
 
-/// Tells once more what was sent for the lines of one file that stand behind one. Where another file follows, this one has all
-/// lines up to it.
-fn tell_span<R: Files + AllocGlobal, W: Write, E: Write>(
+/// What was sent for the lines of one file that stand behind one is told once more, behind what `told` has. Where another file
+/// follows, this one has all lines up to it.
+fn tell_span<R: Files + AllocGlobal, E: Write>(
     folder: &Folder<'_, R>,
     number: u64,
     next: Option<u64>,
     heard: u64,
-    out: &mut W,
+    told: &mut Vec<u8>,
     errors: &mut E,
 ) -> Result<(), OpenFault> {
     let path = folder.span_path(number).map_err(|_| OpenFault::NoMemory)?;
@@ -162,24 +170,26 @@ fn tell_span<R: Files + AllocGlobal, W: Write, E: Write>(
         Err(fault) => return Err(refuse(&path, fault, errors)),
     };
     let (_first_line, records) = whole.split_at(FIRST_LINE.len().min(whole.len()));
-    if next.is_some() && last_number(records) != next {
+    if next.is_some() && last_number(records, number) != next {
         return Err(refuse(
             &path,
-            "no file has the lines behind its last record",
+            "it doesn't have each line up to the next file once",
             errors,
         ));
     }
-    tell_sent(out, records, heard).map_err(|_| OpenFault::Write)
+    // what is kept in memory lacks nothing but that
+    tell_sent(told, records, heard).map_err(|_| OpenFault::NoMemory)
 }
 
-/// Tells once more what was sent for the lines of all files that have lines behind one.
-fn tell_heard<R: Files + AllocGlobal, W: Write, E: Write>(
+/// What was sent for the lines of all files that stand behind one.
+fn told_behind<R: Files + AllocGlobal, E: Write>(
+    alloc: Global,
     folder: &Folder<'_, R>,
     spans: &[u64],
     heard: u64,
-    out: &mut W,
     errors: &mut E,
-) -> Result<(), OpenFault> {
+) -> Result<Vec<u8>, OpenFault> {
+    let mut told = Vec::new(alloc);
     for (place, number) in spans.iter().enumerate() {
         let next = spans.get(place.saturating_add(1)).copied();
         let is_over = match next {
@@ -187,11 +197,14 @@ fn tell_heard<R: Files + AllocGlobal, W: Write, E: Write>(
             None => false,
         };
         if !is_over {
-            tell_span(folder, *number, next, heard, out, errors)?;
+            tell_span(folder, *number, next, heard, &mut told, errors)?;
         }
     }
-    out.flush().map_err(|_| OpenFault::Write)
+    Ok(told)
 }
+
+/// Why nothing is told once more of the lines behind one.
+const UNHEARD: &str = "no file has the line that was heard";
 
 /// Whether the line behind the one that was heard stands in a file that is there no more.
 fn is_gone(spans: &[u64], heard: u64) -> bool {
@@ -201,7 +214,25 @@ fn is_gone(spans: &[u64], heard: u64) -> bool {
     }
 }
 
-/// Goes on with the journal that a folder has.
+/// What was sent for the lines behind the one that was heard, where that is said; refused where no file has it.
+fn told_again<R: Files + AllocGlobal, E: Write>(
+    alloc: Global,
+    folder: &Folder<'_, R>,
+    words: JournalWords<'_>,
+    spans: &[u64],
+    last: u64,
+    errors: &mut E,
+) -> Result<Vec<u8>, OpenFault> {
+    match words.heard {
+        Some(heard) if is_gone(spans, heard) || last < heard => {
+            Err(refuse(words.folder, UNHEARD, errors))
+        }
+        Some(heard) => told_behind(alloc, folder, spans, heard, errors),
+        None => Ok(Vec::new(alloc)),
+    }
+}
+
+/// Goes on with the journal that a folder has. Before anything is told of it, or sent once more, it is on the disk.
 fn go_on<'a, R: Files + AllocGlobal, W: Write, E: Write>(
     rt: &'a R,
     folder: Folder<'a, R>,
@@ -219,27 +250,23 @@ fn go_on<'a, R: Files + AllocGlobal, W: Write, E: Write>(
         .map_err(|_| OpenFault::NoMemory)?;
     let octets = octets_of(&folder, last_span, &path, errors)?;
     let found = found_in(alloc, &path, site, site_sum, last_span, &octets, errors)?;
-    if let Some(heard) = words.heard {
-        if is_gone(&spans, heard) || found.last < heard {
-            return Err(refuse(words.folder, "no file has the line that was heard", errors));
-        }
-    }
+    let told = told_again(alloc, &folder, words, &spans, found.last, errors)?;
+    let (octets, _cut) = octets.split_at(found.whole.min(octets.len()));
+    let journal = Journal::go_on(alloc, folder, spans, octets, found.last, words.keep)?;
     say_resumed(&found, &path, errors).map_err(|_| OpenFault::Write)?;
-    if let Some(heard) = words.heard {
-        tell_heard(&folder, &spans, heard, out, errors)?;
-    }
+    out.write_all(told.as_slice())
+        .map_err(|_| OpenFault::Write)?;
+    out.flush().map_err(|_| OpenFault::Write)?;
     let Found {
         book,
-        last,
-        whole,
+        last: _,
+        whole: _,
         is_cut: _,
     } = found;
-    let (octets, _cut) = octets.split_at(whole.min(octets.len()));
-    let journal = Journal::go_on(alloc, folder, spans, octets, last, words.keep)?;
     Ok((journal, book))
 }
 
-/// Begins a journal in a folder that has none.
+/// Begins a journal in a folder that has none; no line can have been heard then.
 fn begin<'a, R: Files + AllocGlobal, E: Write>(
     rt: &'a R,
     folder: Folder<'a, R>,
@@ -248,6 +275,9 @@ fn begin<'a, R: Files + AllocGlobal, E: Write>(
     site_sum: u32,
     errors: &mut E,
 ) -> Result<(Journal<'a, R>, Book), OpenFault> {
+    if words.heard.unwrap_or(0) > 0 {
+        return Err(refuse(words.folder, UNHEARD, errors));
+    }
     let alloc = rt.alloc();
     let book = Book::new(alloc, site).map_err(|_| OpenFault::NoMemory)?;
     let head = match head_body(alloc, site_sum, &book) {
@@ -260,6 +290,40 @@ fn begin<'a, R: Files + AllocGlobal, E: Write>(
     };
     let journal = Journal::begin(alloc, folder, head.as_bytes(), words.keep)?;
     Ok((journal, book))
+}
+
+/// Makes the folder, as [`Folder::make`] does; it is refused where another thing stands there.
+fn make_folder<R: Files + AllocGlobal, E: Write>(
+    folder: &Folder<'_, R>,
+    path: &str,
+    errors: &mut E,
+) -> Result<bool, OpenFault> {
+    match folder.make() {
+        Ok(is_named) => Ok(is_named),
+        Err(error) if error.kind() == io::ErrorKind::AlreadyExists => {
+            Err(refuse(path, "isn't a folder", errors))
+        }
+        Err(error) => Err(OpenFault::from(error)),
+    }
+}
+
+/// Locks the folder; it is refused where another controller has it.
+fn lock_folder<R: Files + AllocGlobal, E: Write>(
+    folder: &Folder<'_, R>,
+    path: &str,
+    errors: &mut E,
+) -> Result<Locked<R::File>, OpenFault>
+where
+    R::File: Locking,
+{
+    match folder.lock() {
+        Ok(Some(lock)) => Ok(lock),
+        Ok(None) => Err(refuse(path, "another controller has this journal", errors)),
+        Err(error) => {
+            let path = folder.lock_path().map_err(|_| OpenFault::NoMemory)?;
+            Err(refuse_file(&path, error, errors))
+        }
+    }
 }
 
 /// Opens the journal of a folder.
@@ -275,18 +339,17 @@ where
     R::File: Locking,
 {
     let folder = Folder::new(rt, words.folder);
-    let is_named = folder.make()?;
-    let Some(lock) = folder.lock()? else {
-        return Err(refuse(words.folder, "another controller has this journal", errors));
-    };
+    let is_named = make_folder(&folder, words.folder, errors)?;
+    let lock = lock_folder(&folder, words.folder, errors)?;
     let listing = folder.list()?;
     say_others(words.folder, &listing, errors)?;
     let Listing { spans, others: _ } = listing;
     let (journal, book) = match spans.last().copied() {
         Some(last) => go_on(rt, folder, words, spans, last, site, site_sum, out, errors)?,
         None => {
+            let begun = begin(rt, folder, words, site, site_sum, errors)?;
             say_unsynced(words.folder, is_named, errors)?;
-            begin(rt, folder, words, site, site_sum, errors)?
+            begun
         }
     };
     Ok(Opened {
@@ -294,15 +357,6 @@ where
         book,
         lock,
     })
-}
-
-/// Tells why a folder can't have a journal: another thing stands there, or what the system says.
-fn say_system<E: Write>(path: &str, error: &io::Error, errors: &mut E) -> io::Result<()> {
-    if error.kind() == io::ErrorKind::AlreadyExists {
-        writeln!(errors, "{}: isn't a folder", Escaped(path))
-    } else {
-        writeln!(errors, "{}: {}", Escaped(path), Reason(error))
-    }
 }
 
 /// Opens the journal of a folder: goes on with the one that is there, or begins one. Nothing where it is refused, as `errors` then
@@ -324,7 +378,7 @@ where
         Err(OpenFault::Write) => Err(LabFault::Write),
         Err(OpenFault::Told) => Ok(None),
         Err(OpenFault::System(error)) => {
-            say_system(words.folder, &error, errors)?;
+            writeln!(errors, "{}: {}", Escaped(words.folder), Reason(&error))?;
             Ok(None)
         }
     }
@@ -336,7 +390,7 @@ pub(crate) fn ended_journal<E: Write>(
     ended: Result<(), LiveFault>,
     lost: Option<Lost>,
     lacks_memory: bool,
-    folder: &str,
+    words: JournalWords<'_>,
     errors: &mut E,
 ) -> Result<Result<(), LiveFault>, LabFault> {
     if lacks_memory {
@@ -347,8 +401,8 @@ pub(crate) fn ended_journal<E: Write>(
     };
     match ended {
         Ok(()) => Ok(Err(LiveFault::Write)),
-        Err(LiveFault::Write) => {
-            let (folder, error) = (Escaped(folder), lost.error());
+        Err(LiveFault::Write) if words.when_lost == WhenLost::End => {
+            let (folder, error) = (Escaped(words.folder), lost.error());
             writeln!(errors, "{folder}: {}; the controller ends", Reason(&error))?;
             Ok(Err(LiveFault::Write))
         }

@@ -159,13 +159,13 @@ where
         asked.entries as u64,
     );
     let ended = live_run(alloc, book, rules, reader, &mut journaled, errors);
-    let (viewer, lost) = journaled.into_parts();
+    let (viewer, lost, lacks_memory) = journaled.into_parts();
     let written = viewer.finish(errors);
     let ended = ended_journal(
         ended,
         lost,
-        held.lacks_memory(),
-        journal_words.folder,
+        lacks_memory || held.lacks_memory(),
+        journal_words,
         errors,
     )?;
     ended_viewed(ended_live(ended, errors), written)

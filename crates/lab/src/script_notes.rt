@@ -69,6 +69,12 @@ fn say_idle<E: Write>(path: &str, idle: Idle, errors: &mut E) -> io::Result<()> 
                 "{path}:{line}: never used: nothing comes of it on {chan}"
             )
         }
+        Cause::Again(chan) => {
+            writeln!(
+                errors,
+                "{path}:{line}: said again before it is used: nothing comes of it on {chan}"
+            )
+        }
         Cause::NoChannel(chan) => writeln!(errors, "{path}:{line}: the site has no channel {chan}"),
         Cause::Unmet(unmet) => writeln!(errors, "{path}:{line}: nothing comes of it: {unmet}"),
     }

@@ -1,5 +1,5 @@
 //! What a trace tells, counted.
-use crate::journal_text::trace_of;
+use crate::journal_text::{behind_head, trace_of};
 use lab_runs::run::{LabFault, Status};
 use run_summaries::{RunSummary, SummaryWords, TraceFault, json_text, summary_of_trace};
 use run_views::SummaryForm;
@@ -42,7 +42,7 @@ fn refuse_line<W: Write, E: Write>(
 }
 
 /// Prints what the trace of a file tells, counted for each cell and in all ([`summary_of_trace`]), in words or as one JSON
-/// object. The file is refused as by [`run_files`](crate::files::run_files). A line that begins as one that is counted, and
+/// object; of a journal's file what stands behind its head, whose book came to be before. The file is refused as by [`run_files`](crate::files::run_files). A line that begins as one that is counted, and
 /// isn't one, is refused: `line` and its number are printed, and one line on `errors` says so. One says where a text has
 /// nothing that is counted.
 pub fn summary_file<R: Files + AllocGlobal, W: Write, E: Write>(
@@ -56,10 +56,11 @@ pub fn summary_file<R: Files + AllocGlobal, W: Write, E: Write>(
     let Some(trace) = trace_of(rt, path, out, errors)? else {
         return Ok(Status::Refused);
     };
-    match summary_of_trace(alloc, &trace) {
+    let (before, told) = behind_head(&trace);
+    match summary_of_trace(alloc, told) {
         Ok(summary) => {
             print_summary(alloc, &summary, form, out)?;
-            if summary.is_empty() {
+            if summary.is_empty() && before == 0 {
                 writeln!(
                     errors,
                     "{}: nothing is counted: is this a trace?",
@@ -68,7 +69,9 @@ pub fn summary_file<R: Files + AllocGlobal, W: Write, E: Write>(
             }
             Ok(Status::Done)
         }
-        Err(TraceFault::Line(number)) => refuse_line(path, number, out, errors),
+        Err(TraceFault::Line(number)) => {
+            refuse_line(path, before.saturating_add(number), out, errors)
+        }
         Err(TraceFault::NoMemory) => Err(LabFault::NoMemory),
     }
 }

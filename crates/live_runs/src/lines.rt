@@ -304,10 +304,10 @@ fn run_to_end<A: Allocator + Copy, R: LineReader, L: LiveListener<A>, E: Write>(
 /// nothing: the listener is told its number, counted on from that of the first, and `errors` why; but of the line `summary` it
 /// is asked to tell what it counted. Where the rules allow no simulators, a line that attaches them can't be read. The listener
 /// is told where the reader has no other line yet. Behind a line with which the desk's history has as many entries as the rules
-/// say, or the listener wants it, the desk begins anew, and the listener is told. At the end of the reader the listener is told what the book holds. Where
-/// the reader's octets are known, what was handled is what exactly the lines that can be read give, in their order, however the
-/// reader cuts them; all other inputs are a simulator's by their source. Of a line that asks the book in vain `errors` is told
-/// why.
+/// say, or the listener wants it, the desk begins anew, and the listener is told. At the end of the reader the listener is told
+/// what the book holds. Where the reader's octets are known, what was handled is what exactly the lines that can be read give, in
+/// their order, however the reader cuts them; all other inputs are a simulator's by their source. Of a line that asks the book in
+/// vain `errors` is told why.
 ///
 /// `NoMemory`: memory was refused; the listener was told what is owed. `Write`: the listener or `errors` couldn't write. `Read`:
 /// the reader failed. After any of them what came before was handled.

@@ -1,8 +1,8 @@
 //! The choices that a trace tells.
 //!
-//! At which rate a channel was asked for isn't in a trace. So its inputs are handled again: where the same events come of
-//! them, the choices are those of that run. Of another trace, as of one that a person wrote, the events that take a channel
-//! are its choices.
+//! At which rate a channel was asked for isn't in a trace. So its inputs are handled again: where the same comes of them, the
+//! choices are those of that run. Of another trace, as of one that a person wrote, or that begins with a book, the events that
+//! take a channel are its choices.
 use crate::reading::Told;
 use cell_table::SiteFault;
 use lab_runs::course::Run;
@@ -32,10 +32,11 @@ fn without_origin(input: &str) -> &str {
     }
 }
 
-/// The inputs of a trace, as a script.
+/// The inputs of a trace, as a script. A last line without its line feed may have been cut: nothing that came of it is told.
 fn script_of<A: Allocator>(alloc: A, trace: &str) -> Result<String<A>, AllocError> {
     let mut script = String::new(alloc);
-    for line in trace.split('\n') {
+    let (whole, _cut) = trace.rsplit_once('\n').unwrap_or(("", ""));
+    for line in whole.split('\n') {
         if let Some(input) = without_return(line).strip_prefix("in ") {
             script.push_str(without_origin(input))?;
             script.push('\n')?;
@@ -83,29 +84,71 @@ fn asks(step: &Step, event: &Event) -> bool {
     }
 }
 
-/// The events that these steps leave of some; nothing where they ask others.
-fn events_behind<'a>(steps: &[Step], events: &'a [Event]) -> Option<&'a [Event]> {
-    let mut events = events;
-    for step in steps {
-        match (step, events) {
-            (Step::NoneFree(..), _) => {}
-            (Step::Asked(..), [event, behind @ ..]) if asks(step, event) => events = behind,
-            (Step::Asked(..), _) => return None,
-        }
-    }
-    Some(events)
+/// What a trace tells behind some of its lines: its events, and how often none was free.
+#[derive(Clone, Copy)]
+struct Rest<'a> {
+    events: &'a [Event],
+    none_free: usize,
 }
 
-/// Whether exactly these events were asked in a run.
-fn has_asked<A: Allocator + Copy>(run: &Run<A>, events: &[Event]) -> bool {
-    let mut events = events;
-    for turn in &run.turns {
-        match events_behind(&turn.steps, events) {
-            Some(behind) => events = behind,
-            None => return false,
+impl<'a> Rest<'a> {
+    /// Whether nothing is told.
+    fn is_empty(self) -> bool {
+        self.events.is_empty() && self.none_free == 0
+    }
+
+    /// What is told behind a step; nothing where that isn't told next.
+    fn behind(self, step: &Step) -> Option<Rest<'a>> {
+        match (step, self.events) {
+            (Step::NoneFree(..), events) => Some(Rest {
+                events,
+                none_free: self.none_free.checked_sub(1)?,
+            }),
+            (Step::Asked(..), [event, events @ ..]) if asks(step, event) => Some(Rest {
+                events,
+                none_free: self.none_free,
+            }),
+            (Step::Asked(..), _) => None,
         }
     }
-    events.is_empty()
+}
+
+/// How far the steps of a turn are told.
+enum Followed<'a> {
+    /// All are, and this behind them.
+    Whole(Rest<'a>),
+    /// The first of them, and nothing behind these.
+    Cut,
+    /// Others are.
+    Others,
+}
+
+/// How far these steps are told.
+fn follow<'a>(steps: &[Step], told: Rest<'a>) -> Followed<'a> {
+    let mut rest = told;
+    for step in steps {
+        if rest.is_empty() {
+            return Followed::Cut;
+        }
+        match rest.behind(step) {
+            Some(behind) => rest = behind,
+            None => return Followed::Others,
+        }
+    }
+    Followed::Whole(rest)
+}
+
+/// Whether what is told came of a run. In its last turn it may end before that does: the trace was cut, or is still written.
+fn came_of<A: Allocator + Copy>(run: &Run<A>, told: Rest<'_>) -> bool {
+    let mut rest = told;
+    for (place, turn) in run.turns.iter().enumerate() {
+        match follow(&turn.steps, rest) {
+            Followed::Whole(behind) => rest = behind,
+            Followed::Cut => return place.saturating_add(1) == run.turns.len(),
+            Followed::Others => return false,
+        }
+    }
+    rest.is_empty()
 }
 
 /// The choices that a trace over the empty book of a site tells, whose lines can be read, in their order.
@@ -120,8 +163,12 @@ pub fn choices_of_trace<A: Allocator + Copy>(
         events: &events,
         none_free: &none_free,
     };
+    let rest = Rest {
+        events: &told.events,
+        none_free: none_free.len(),
+    };
     match run_of(alloc, texts)? {
-        Some(run) if has_asked(&run, &told.events) => {
+        Some(run) if came_of(&run, rest) => {
             Ok(choices_in(alloc, &run.turns, Side::First, lines)?)
         }
         _ => Ok(taken_in(alloc, &told.events, lines)?),

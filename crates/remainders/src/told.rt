@@ -1,6 +1,6 @@
 //! The choices of a run, and what is printed of them.
 use crate::choices::Choice;
-use channel_fsm::ChanId;
+use channel_fsm::{ChanId, Rate};
 use ho_procedure::exchange::{Inbound, Line};
 use lab_runs::turn::Turn;
 use lab_script::script::Side;
@@ -54,17 +54,14 @@ fn chosen_by(event: Event, is_seize: bool) -> Option<ChanId> {
     }
 }
 
-/// The line at a place, 0 where none is known.
-fn line_at(lines: &[usize], place: usize) -> usize {
-    lines.get(place).copied().unwrap_or(0)
-}
-
 impl<A: Allocator> Choices<'_, A> {
-    /// An event was asked.
+    /// An event was asked. What no line tells is left out.
     fn ask(&mut self, event: Event, is_seize: bool) -> Result<(), AllocError> {
-        if let Some(chan) = chosen_by(event, is_seize) {
+        if let Some(chan) = chosen_by(event, is_seize)
+            && let Some(line) = self.lines.events.get(self.asked).copied()
+        {
             self.choices.push(Choice {
-                line: line_at(self.lines.events, self.asked),
+                line,
                 before: self.asked,
                 cell: chan.cell,
                 rate: chan.sub.rate(),
@@ -75,21 +72,26 @@ impl<A: Allocator> Choices<'_, A> {
         Ok(())
     }
 
+    /// None was free in a cell at a rate. What no line tells is left out.
+    fn find_none(&mut self, cell: u8, rate: Rate) -> Result<(), AllocError> {
+        if let Some(line) = self.lines.none_free.get(self.none).copied() {
+            self.choices.push(Choice {
+                line,
+                before: self.asked,
+                cell,
+                rate,
+                chosen: None,
+            })?;
+        }
+        self.none = self.none.saturating_add(1);
+        Ok(())
+    }
+
     /// A step was taken for an input.
     fn step(&mut self, step: Step, is_seize: bool) -> Result<(), AllocError> {
         match step {
             Step::Asked(event, _) => self.ask(event, is_seize),
-            Step::NoneFree(cell, rate) => {
-                self.choices.push(Choice {
-                    line: line_at(self.lines.none_free, self.none),
-                    before: self.asked,
-                    cell,
-                    rate,
-                    chosen: None,
-                })?;
-                self.none = self.none.saturating_add(1);
-                Ok(())
-            }
+            Step::NoneFree(cell, rate) => self.find_none(cell, rate),
         }
     }
 

@@ -177,10 +177,15 @@ impl<A: Allocator + Copy> RunSummary<A> {
         }
     }
 
-    /// Counts a line of a trace. The answer is whether it can be read.
+    /// Counts a line of a trace. The answer is whether it can be read. Of two controllers' traces each line that is counted has
+    /// a mark.
     fn add_text(&mut self, line: &str) -> Result<bool, AllocError> {
         let (mark, text) = cut_mark(without_words(without_return(line)));
         match self.told_in(text)? {
+            Some(told) if mark == Mark::Alone && self.peer.is_some() => Ok(matches!(
+                told,
+                Told::Nothing
+            )),
             Some(told) => {
                 self.add_told(mark, told)?;
                 Ok(true)

@@ -1,5 +1,7 @@
 //! Inputs that come to nothing.
+use cell_table::Site;
 use channel_fsm::ChanState;
+use ho_procedure::exchange::{Inbound, Line};
 use lab_runs::turn::{Answer, Turn};
 use line_words::Content;
 use radio_book::event::{Event, Reply};
@@ -12,6 +14,15 @@ pub(crate) fn is_ignored<A: Allocator>(turn: &Turn<A>) -> bool {
     match &turn.answer {
         Answer::Sent(sent) => turn.steps.is_empty() && sent.is_empty(),
         Answer::Undecoded(_) => false,
+    }
+}
+
+/// Whether an operator's line asks for a free channel of a cell that the site hasn't.
+pub(crate) fn is_nowhere<A: Allocator + Copy>(turn: &Turn<A>, site: &Site<A>) -> bool {
+    match &turn.input {
+        Inbound::Operator(Line::Seize { cell, .. }) => *cell >= site.cells(),
+        Inbound::Operator(_) | Inbound::Expiry { .. } | Inbound::Abis { .. } | Inbound::A { .. } =>
+            { false }
     }
 }
 

@@ -1,6 +1,6 @@
 //! A listener that views a run.
 use crate::chart_rows::RunChart;
-use crate::ignored::{is_ignored, is_out_of_stage};
+use crate::ignored::{is_ignored, is_nowhere, is_out_of_stage};
 use crate::options::{SummaryForm, Views};
 use crate::origins::{Origin, Origins};
 use capture::RunCapture;
@@ -208,8 +208,8 @@ impl<'a, W: Write, A: Allocator + Copy> Viewer<'a, W, A> {
     }
 
     /// Says whether nothing comes of an input.
-    fn show_ignored(&mut self, turn: &Turn<A>) -> Result<(), LabFault> {
-        if is_ignored(turn) {
+    fn show_ignored(&mut self, turn: &Turn<A>, book: &Book<A>) -> Result<(), LabFault> {
+        if is_ignored(turn) || is_nowhere(turn, book.site()) {
             return Ok(print_ignored(self.out, &turn.input)?);
         }
         let content = content_of(self.alloc, &TraceLine::Input(&turn.input))?;
@@ -220,13 +220,13 @@ impl<'a, W: Write, A: Allocator + Copy> Viewer<'a, W, A> {
     }
 
     /// Shows the line of an input, with words also whether nothing comes of it.
-    fn show_input(&mut self, mark: Mark, turn: &Turn<A>) -> Result<(), LabFault> {
+    fn show_input(&mut self, mark: Mark, turn: &Turn<A>, book: &Book<A>) -> Result<(), LabFault> {
         let origin = self.origin_of(turn.source);
         if !self.begin_line(mark, &TraceLine::Input(&turn.input), origin)? {
             return Ok(());
         }
         if self.words {
-            self.show_ignored(turn)?;
+            self.show_ignored(turn, book)?;
         }
         Ok(writeln!(self.out)?)
     }
@@ -356,7 +356,7 @@ impl<W: Write, A: Allocator + Copy> Listener<A> for Viewer<'_, W, A> {
 
     fn hear_turn(&mut self, mark: Mark, turn: &Turn<A>, book: &Book<A>) -> Result<(), LabFault> {
         self.shown = 0;
-        self.show_input(mark, turn)?;
+        self.show_input(mark, turn, book)?;
         self.show_steps(mark, turn)?;
         self.show_answer(mark, &turn.answer)?;
         self.print_decision(mark, turn, book)?;

@@ -184,20 +184,59 @@ fn forms_of(link: LinkName) -> &'static [MessageForm<'static>] {
     }
 }
 
+/// Which way a message goes.
+#[derive(Clone, Copy, Debug, PartialEq, Eq)]
+enum Way {
+    /// A controller is sent it.
+    In,
+    /// A controller sends it.
+    Out,
+}
+
+/// The messages that controllers send on Abis (TS 48.058 clauses 8.3 and 8.4).
+const SENT_ON_ABIS: &[&str] = &["CHANNEL ACTIVATION", "DATA REQUEST", "RF CHANNEL RELEASE"];
+
+/// The messages that controllers send on A (TS 48.008 clause 3.2.1).
+const SENT_ON_A: &[&str] = &[
+    "CLEAR COMPLETE",
+    "CLEAR REQUEST",
+    "HANDOVER COMPLETE",
+    "HANDOVER DETECT",
+    "HANDOVER FAILURE",
+    "HANDOVER PERFORMED",
+    "HANDOVER REQUEST ACKNOWLEDGE",
+    "HANDOVER REQUIRED",
+];
+
+/// Whether controllers send a message on a link of which a part may be.
+fn is_sent(link: LinkName, part: &str, may_be_cut: bool) -> bool {
+    let names = match link {
+        LinkName::Abis => SENT_ON_ABIS,
+        LinkName::A => SENT_ON_A,
+        // these stand in messages of Abis, which are looked at
+        LinkName::Rr => return true,
+    };
+    let (name, _) = name_and_fields(part);
+    names.iter().any(|sent| *sent == name || (may_be_cut && sent.starts_with(part)))
+}
+
 /// What is wrong with the first part, which may be cut where nothing stands behind it.
 fn outer_fault<'a, A: Allocator + Copy>(
     alloc: A,
+    way: Way,
     link: LinkName,
     part: &'a str,
     may_be_cut: bool,
 ) -> Result<Option<Never<'a>>, AllocError> {
-    let Some(fault) = part_fault(forms_of(link), part, may_be_cut) else {
-        return Ok(None);
-    };
-    if link == LinkName::Abis && are_rowless(alloc, part, may_be_cut)? {
-        return Ok(None);
+    let fault = part_fault(forms_of(link), part, may_be_cut);
+    let is_rowless = link == LinkName::Abis && are_rowless(alloc, part, may_be_cut)?;
+    match fault {
+        Some(fault) if !is_rowless => Ok(Some(Never::Message(fault))),
+        Some(_) | None if way == Way::Out && !is_sent(link, part, may_be_cut) => {
+            Ok(Some(Never::Comes(name_and_fields(part).0)))
+        }
+        Some(_) | None => Ok(None),
     }
-    Ok(Some(Never::Message(fault)))
 }
 
 /// Whether a part has all fields of its message: then a line can go on with the next.
@@ -224,13 +263,14 @@ fn inners_fault<'a>(parts: &'a str, is_whole: bool) -> Option<Never<'a>> {
 /// What is wrong with a message of a link in words, of which a line has some or with which it begins.
 fn words_fault<'a, A: Allocator + Copy>(
     alloc: A,
+    way: Way,
     link: LinkName,
     words: &'a str,
 ) -> Result<Option<Never<'a>>, AllocError> {
     let Some((first, others)) = words.split_once(';') else {
-        return outer_fault(alloc, link, words, true);
+        return outer_fault(alloc, way, link, words, true);
     };
-    match outer_fault(alloc, link, first, false)? {
+    match outer_fault(alloc, way, link, first, false)? {
         None => Ok(inners_fault(others, is_whole(link, first))),
         fault => Ok(fault),
     }
@@ -251,9 +291,13 @@ fn message_in(line: &str) -> Option<(LinkName, &str)> {
     }
 }
 
-/// Whether a line is that of a message.
-fn is_message(line: &str) -> bool {
-    line.starts_with("in ") || line.starts_with("out ")
+/// Which way the message of a line goes; nothing where it is none.
+fn way_of(line: &str) -> Option<Way> {
+    match line.split_once(' ')? {
+        ("in", _) => Some(Way::In),
+        ("out", _) => Some(Way::Out),
+        _ => None,
+    }
 }
 
 /// Whether a text has hexadecimal digits alone, as a trace has them.
@@ -269,10 +313,11 @@ fn is_any_hex(text: &str) -> bool {
 /// Why no line of a link can have what stands behind its place, which isn't octets as a trace has them.
 fn why_not_said<'a, A: Allocator + Copy>(
     alloc: A,
+    way: Way,
     link: LinkName,
     words: &'a str,
 ) -> Result<Option<Never<'a>>, AllocError> {
-    match words_fault(alloc, link, words)? {
+    match words_fault(alloc, way, link, words)? {
         Some(_) if is_any_hex(words) => Ok(Some(Never::Capitals)),
         fault => Ok(fault),
     }
@@ -284,11 +329,11 @@ pub(crate) fn why_no_message<'a, A: Allocator + Copy>(
     alloc: A,
     line: &'a str,
 ) -> Result<Option<Never<'a>>, AllocError> {
-    if !is_message(line) {
+    let Some(way) = way_of(line) else {
         return Ok(None);
-    }
+    };
     match message_in(line) {
-        Some((link, words)) if !is_hex(words) => why_not_said(alloc, link, words),
+        Some((link, words)) if !is_hex(words) => why_not_said(alloc, way, link, words),
         Some(_) | None => Ok(None),
     }
 }

@@ -41,4 +41,4 @@ pub returns-clause-reason : goal.returns-clause-reason
 returns-clause-reason g c =
     let so_far = c.loop-next.invariant.so_far in
     let counted = counted_length c.args.number so_far.records c.loop-next.resumed.last so_far.counted in
-    (so_far.records, c.loop-next.resumed.left.now, so_far.text, inr (omega (arith, c.loop-next-test.false, c.loop-next.invariant.next, counted)))
+    (so_far.records, c.loop-next.resumed.left.now, so_far.text, inr (refl, omega (arith, c.loop-next-test.false, c.loop-next.invariant.next, counted)))
