@@ -32,6 +32,22 @@ None was free, because the attempt of call 1 had the channel; without it call 2 
   choices 14
   same
 
+So it is of a trace that was cut, or is still written, within what came of its last line; also within that line.
+
+  $ { head -n 19 none.trace; echo 'in open 3 0 0 2'; } >cut.trace
+  $ ./lab audit examples/two_cells.toml cut.trace | grep choices
+  choices 14
+  $ { cat cut.trace; printf 'event open 3 0/0/2 -> done\nin clea'; } >within.trace
+  $ ./lab rewind examples/two_cells.toml within.trace 9 | grep choices
+  choices 14
+
+Of a trace that lacks a line `none free`, or has other events than come of its lines `in`, nothing else is known than which events
+take a channel.
+
+  $ sed 14d none.trace >lacks.trace
+  $ ./lab audit examples/two_cells.toml lacks.trace | grep choices
+  choices -
+
 Another channel: the attempt of call 5 had 0/0/2, so call 6 got 0/0/3. Call 7 gets what it would have got: call 6 has its
 channel in either case.
 

@@ -224,6 +224,25 @@ A text that no line can begin with, nor be in words, would never be missed: it i
   script.txt:23: never missed: a blank stands behind ;
   script.txt:24: never missed: a trace has octets in small letters
 
+So is a message that controllers are sent, and don't send. (`in` may have any: a line may give it.)
+
+  $ cat >script.txt <<'END'
+  > open 1 0 0 3
+  > #! out abis 0 0 CHANNEL ACTIVATION NACK
+  > #! out a 1 CLEAR COMMAND
+  > #! out a 1 CLEAR CO
+  > #! out abis 0 1 CHANNEL ACTI
+  > #! out abis 0 1 MEASUREMENT RESULT tn=3
+  > #! out abis 0 1 CHANNEL REQUIRED
+  > #! in abis 0 0 CHANNEL ACTIVATION NACK
+  > END
+  $ ./lab test examples/two_cells.toml script.txt 2>&1 >/dev/null
+  script.txt:2: never missed: "CHANNEL ACTIVATION NACK" comes, and isn't sent
+  script.txt:3: never missed: "CLEAR COMMAND" comes, and isn't sent
+  script.txt:6: never missed: "MEASUREMENT RESULT" comes, and isn't sent
+  script.txt:7: never missed: "CHANNEL REQUIRED" comes, and isn't sent
+  [1]
+
 What else isn't met stands behind these; a script that can't be read is refused all the same.
 
   $ printf 'open 1 0 0 3\n#! out a 1\n#! out abis\n#! ot a\n' >script.txt
@@ -501,6 +520,15 @@ A script that expects nothing isn't met, nor is one whose comments have slipped:
   script.txt:3: an expectation but for a blank? "#> ", "#! " and "#= " begin one
   script.txt:4: an expectation but for a blank? "#> ", "#! " and "#= " begin one
   script.txt:5: an expectation but for a blank? "#> ", "#! " and "#= " begin one
+  $ printf 'open 1 0 0 3\n#= 1: calls 1\n#=1: calls 7\n#!2: out\n#=\tcalls 7\n#!\tout\n' >script.txt
+  $ ./lab test examples/two_cells.toml script.txt --peer examples/one_cell.toml 2>errors
+  1..1
+  ok 1 - script.txt
+  $ cat errors
+  script.txt:3: an expectation but for a blank? "#> ", "#! " and "#= " begin one
+  script.txt:4: an expectation but for a blank? "#> ", "#! " and "#= " begin one
+  script.txt:5: an expectation but for a blank? "#> ", "#! " and "#= " begin one
+  script.txt:6: an expectation but for a blank? "#> ", "#! " and "#= " begin one
   $ printf 'open 1 0 0 3\n#>..\n#>\n' >script.txt
   $ ./lab test examples/two_cells.toml script.txt 2>&1 >/dev/null
   script.txt:2: an expectation but for a blank? "#> ", "#! " and "#= " begin one

@@ -70,6 +70,33 @@ All of these are used; what is cut may not say any more which channel it is abou
   1..1
   ok 1 - used.txt
 
+So are those in whose place another comes, an answer that isn't cut, and one that is about another channel.
+
+  $ cat >again.txt <<'END'
+  > sim
+  > open 1 0 0 3
+  > mobile 0 0 3 return
+  > mobile 0 0 3 arrive
+  > refuse 1 1 3
+  > refuse 1 1 3
+  > cut 1 1 2 200
+  > cut 0 0 2 7
+  > mobile 1 return
+  > handover 1 1
+  > #> ..
+  > END
+  $ ./lab run examples/two_cells.toml again.txt 2>&1 >/dev/null
+  again.txt:3: said again before it is used: nothing comes of it on 0/0/3
+  again.txt:4: said again before it is used: nothing comes of it on 0/0/3
+  again.txt:5: said again before it is used: nothing comes of it on 1/1/3
+  again.txt:7: never used: nothing comes of it on 1/1/2
+  again.txt:8: never used: nothing comes of it on 0/0/2
+  again.txt:9: never used: nothing comes of it on 0/0/3
+  $ ./lab test examples/two_cells.toml again.txt 2>/dev/null | head -n 3
+  1..1
+  not ok 1 - again.txt
+  # line 3 comes to nothing
+
 A line that names a call is about the channel that the call has then. What is kept of a mobile that comes is about a
 HANDOVER COMMAND to the channel, behind the line.
 

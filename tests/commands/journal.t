@@ -140,6 +140,35 @@ Refused are a newest file that is empty, or can't be read, and a folder without 
   ls: cannot access '/lock': No such file or directory
   [2]
 
+Nothing is told of a journal that can't be gone on with: before, its last file is written anew.
+
+  $ cp -r k z; mkdir z/begun.tmp
+  $ ./lab live examples/two_cells.toml --journal z --heard 0 </dev/null
+  z: * (glob)
+  [2]
+
+Where no journal is, no line was heard.
+
+  $ mkdir nothing; ./lab live examples/two_cells.toml --journal nothing --heard 1 </dev/null
+  nothing: no file has the line that was heard
+  [2]
+  $ ./lab live examples/two_cells.toml --journal nothing --heard 0 </dev/null
+  end channels=0 calls=0 references=0 timers=0
+
+Nobody waits for what is no file. Others may not read what is one.
+
+  $ cp -r k v1; rm v1/lock; mkfifo v1/lock
+  $ cp -r k v2; mkfifo v2/00000000000000000009.journal
+  $ cp -r k v3; rm v3/lock; mkdir v3/lock
+  $ for folder in v1 v2 v3; do timeout 60 ./lab live examples/two_cells.toml --journal $folder </dev/null; done
+  v1/lock: isn't a file
+  v2/00000000000000000009.journal: isn't a file
+  v3/lock: is a folder
+  [2]
+  $ stat -c '%a %n' k/*
+  600 k/00000000000000000000.journal
+  600 k/lock
+
 Nothing is written through a link that somebody else made.
 
   $ cp -r k x; echo mine >other; ln -s $PWD/other x/begun.tmp
@@ -162,6 +191,9 @@ A journal is one controller's.
   $ ./lab live examples/two_cells.toml --journal k </dev/null
   k: another controller has this journal
   [2]
+  $ rm k/lock; ./lab live examples/two_cells.toml --journal k </dev/null
+  k: another controller has this journal
+  [2]
   $ exec 3>&-; wait
   $ touch file; ./lab live examples/two_cells.toml --journal file/j </dev/null
   file/j: * (glob)
@@ -179,6 +211,23 @@ Its folder may lie in one that may not be read. That is told where a journal beg
   resumed after line 0: channels=0 calls=0
   above/new: the folder above can't be synced: if power fails, this one may be lost
   $ chmod 700 above
+
+Counted is what the lines of a file tell, not its head, whose calls were opened before.
+
+  $ printf 'open 1 0 0 3\nabis 0 0 0822010b081234\nclear 1\nopen 2 0 0 2\nclear 2\n' |
+  >   ./lab live examples/two_cells.toml --history 2 --journal heads >whole
+  $ for file in heads/*.journal; do ./lab summary $file | awk '/all.*calls opened/ { print $3 }'; done | paste -sd+
+  1+0+1+0
+  $ ./lab summary whole | awk '/all.*calls opened/ { print $3 }'
+  2
+
+A file has some 32 MiB, however long its lines are.
+
+  $ long=$(head -c 65000 /dev/zero | tr '\0' 0)
+  $ for n in $(seq 600); do echo "abis 0 0 $long"; done | ./lab live examples/two_cells.toml --journal dd >/dev/null
+  $ ls dd | grep -c journal
+  2
+  $ find dd -size +40M
 
 With a short history files are begun, each with the events that lead to its book, and audit reads each as a trace.
 

@@ -270,6 +270,15 @@ A line that begins as one that is counted has to be one.
   line 2
   2 bad.trace:2: no line of a trace, as run prints it
 
+Two traces in one file are none: of two controllers each line that is counted has a mark.
+
+  $ ./lab run examples/two_cells.toml examples/one_call.txt >one.trace
+  $ cat one.trace examples/handover_between.trace >mixed.trace
+  $ ./lab summary mixed.trace 2>&1
+  mixed.trace:1: no line of a trace, as run prints it
+  line 1
+  [2]
+
 A file that can't be read; one that is no trace.
 
   $ ./lab summary nothing.trace

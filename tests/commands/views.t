@@ -133,6 +133,7 @@ Nothing comes of these inputs, of a fault does.
   > abis 0 0 0821010b0300060400010801
   > a 1 00011b
   > handover 1 99
+  > seize 3 99 full
   > abis 0 0 08
   > a 2 000121
   > abis 0 0 0822010b08
@@ -144,6 +145,8 @@ Nothing comes of these inputs, of a fault does.
   in abis 0 0 0821010b0300060400010801 # call 1; CHANNEL ACTIVATION tn=3 activation=0 mode=00010801 reference=-; ignored: no row
   in a 1 00011b # call 1; HANDOVER DETECT; ignored: no row
   in handover 1 99 # call 1; ignored: no such cell
+  in seize 3 99 full # call 3; ignored: no such cell
+  none free 99 # call 3
   in abis 0 0 08 # no call
   fault abis 5 1 # no call; an element is cut at offset 1
   in a 2 000121 # call 2; CLEAR COMPLETE; ignored: no row
