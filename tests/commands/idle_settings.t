@@ -79,7 +79,7 @@ So are those in whose place another comes, an answer that isn't cut, and one tha
   > mobile 0 0 3 arrive
   > refuse 1 1 3
   > refuse 1 1 3
-  > cut 1 1 2 200
+  > cut 1 1 3 200
   > cut 0 0 2 7
   > mobile 1 return
   > handover 1 1
@@ -89,7 +89,7 @@ So are those in whose place another comes, an answer that isn't cut, and one tha
   again.txt:3: said again before it is used: nothing comes of it on 0/0/3
   again.txt:4: said again before it is used: nothing comes of it on 0/0/3
   again.txt:5: said again before it is used: nothing comes of it on 1/1/3
-  again.txt:7: never used: nothing comes of it on 1/1/2
+  again.txt:7: never used: nothing comes of it on 1/1/3
   again.txt:8: never used: nothing comes of it on 0/0/2
   again.txt:9: never used: nothing comes of it on 0/0/3
   $ ./lab test examples/two_cells.toml again.txt 2>/dev/null | head -n 3

@@ -221,14 +221,6 @@ Counted is what the lines of a file tell, not its head, whose calls were opened 
   $ ./lab summary whole | awk '/all.*calls opened/ { print $3 }'
   2
 
-A file has some 32 MiB, however long its lines are.
-
-  $ long=$(head -c 65000 /dev/zero | tr '\0' 0)
-  $ for n in $(seq 600); do echo "abis 0 0 $long"; done | ./lab live examples/two_cells.toml --journal dd >/dev/null
-  $ ls dd | grep -c journal
-  2
-  $ find dd -size +40M
-
 With a short history files are begun, each with the events that lead to its book, and audit reads each as a trace.
 
   $ ./lab live examples/two_cells.toml --journal q --history 3 <lines | cmp - plain

@@ -267,8 +267,8 @@ A line that begins as one that is counted has to be one.
   2 bad.trace:2: no line of a trace, as run prints it
   line 2
   2 bad.trace:2: no line of a trace, as run prints it
-  line 2
-  2 bad.trace:2: no line of a trace, as run prints it
+  line 1
+  2 bad.trace:1: no line of a trace, as run prints it
 
 Two traces in one file are none: of two controllers each line that is counted has a mark.
 

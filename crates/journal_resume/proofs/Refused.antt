@@ -30,7 +30,7 @@ handed_on (Err y) x P is why = subst P (sym is) why
 
 -- why a record isn't taken, where it stands
 pub record_reason : (f : ResumeFault) (next number : ℕ) (left body behind : List ℕ) → BeginsWith left number body behind → IsRecordReason f next number body → IsNextReason f next left
-record_reason (fault.Misplaced n) next number left body behind begins (is, other) = inl (is, number, body, behind, begins, other)
+record_reason (fault.Misplaced n) next number left body behind begins (is, other) = inl (is, (number, body, behind, begins, other))
 record_reason (fault.Unreadable n) next number left body behind begins (is, same, why) = (is, body, behind, subst (λ k. BeginsWith left k body behind) same begins, why)
 record_reason (fault.OtherReply n) next number left body behind begins (is, same, why) = (is, body, behind, subst (λ k. BeginsWith left k body behind) same begins, why)
 record_reason fault.NoMemory next number left body behind begins why = tt
