@@ -6,9 +6,10 @@ import selectors
 import signal
 import socket
 import stat
-import subprocess
+import time
 
 from again import Again
+from child import begin
 from figures import FiguresFile
 from links import Links
 from log import Log
@@ -21,6 +22,8 @@ from tell import ERRORS, OUTPUT, say
 LAST = 30.0
 # For how long somebody may not read what is printed at the end, in seconds.
 UNREAD = 5.0
+# After how many milliseconds is looked again whether the controller has ended that prints nothing more.
+SOON = 10
 
 
 class Bridge:
@@ -45,8 +48,8 @@ class Bridge:
         self.control = self.figures = None
         self.core = None
         self.again = self.relay.again = Again(self, words.core, words.again, words.hang)
-        # whether all ends, and whether the controller was killed for that
-        self.is_ending = self.is_killed = False
+        # whether all ends, and whether the controller was killed for that; and whether that has printed what none does
+        self.is_ending = self.is_killed = self.is_garbled = False
 
     def start(self):
         """Opens what is to be open, the controller last."""
@@ -69,22 +72,23 @@ class Bridge:
 
     def start_core(self, command):
         """Starts the controller."""
-        pipe = subprocess.PIPE
-        self.core = subprocess.Popen(command, stdin=pipe, stdout=pipe, stderr=pipe, start_new_session=True)
-        files = (self.core.stdout, self.core.stdin, self.core.stderr)
-        reads, writes, errors = (os.dup(file.fileno()) for file in files)
-        for file, number in zip(files, (reads, writes, errors)):
-            file.close()
-            os.set_blocking(number, False)
+        self.core, writes, reads, errors = begin(command)
+        self.is_garbled = False
         lines = Lines(self.hear)
         self.relay.core = Stream(self.selector, reads, writes, lines.add, lambda: self.core_ended(lines), self.core_unread)
         said = Lines(self.hear_error)
         self.errors = Stream(self.selector, errors, None, said.add, lambda: self.errors_ended(said))
 
     def hear(self, line):
-        """Hears what the controller prints."""
-        if not self.again.passes_over(line):
+        """Hears what the controller prints. Where that is no line of a controller's, nothing more is heard of it."""
+        if self.is_garbled or self.again.passes_over(line):
+            return
+        if self.relay.is_readable(line):
             self.relay.hear(line)
+            return
+        self.is_garbled = True
+        say(f"the controller prints what none does, and is killed: {shown(line)}")
+        self.kill_core()
 
     def core_unread(self):
         """The controller reads no more. What it still sends is handed on, or comes again from its journal."""
@@ -102,7 +106,7 @@ class Bridge:
             if rest := lines.end():
                 operator.refuse_torn(rest)
             self.operator.leave()
-            if not self.control:
+            if not self.control and not self.is_ending:
                 self.end("standard input has ended")
 
         operator = Operator(self.relay, "operator at standard input")
@@ -191,6 +195,7 @@ class Bridge:
         """Has the controller end, behind the lines that it has."""
         self.relay.core.finish()
         self.times.set("end", LAST, self.kill)
+        self.again.watch.await_answer()
 
     def kill(self):
         """Kills a controller that doesn't end."""
@@ -206,12 +211,15 @@ class Bridge:
             os.killpg(self.core.pid, signal.SIGKILL)
 
     def status_of_core(self):
-        """The status of a controller that prints nothing more. It may have closed its output, and go on."""
-        try:
-            return self.core.wait(LAST)
-        except subprocess.TimeoutExpired:
-            self.kill()
-            return self.core.wait()
+        """The status of a controller that prints nothing more. It may have closed its output, and go on: signals count still."""
+        ear, end = select.poll(), time.monotonic() + LAST
+        ear.register(self.signals[0], select.POLLIN)
+        while (status := self.core.poll()) is None:
+            if ear.poll(SOON):
+                self.take_signal(self.signals[0].recv(1)[0])
+            if time.monotonic() > end and not self.is_killed:
+                self.kill()
+        return status
 
     def core_ended(self, lines):
         """The controller has ended. Half a line isn't heard: where it is started again, it comes again from its journal."""
@@ -236,7 +244,10 @@ class Bridge:
 
     def close_errors(self):
         """Hears what a controller that has ended still said on standard error."""
-        while self.errors.reads is not None and select.select([self.errors.reads], [], [], 0)[0]:
+        waiting = select.poll()
+        if self.errors.reads is not None:
+            waiting.register(self.errors.reads, select.POLLIN)
+        while self.errors.reads is not None and waiting.poll(0):
             self.errors.read()
         self.errors.close()
 

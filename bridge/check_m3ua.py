@@ -1,11 +1,12 @@
 """The checks of the way to the centre by M3UA (m3ua.py), with a program of lines of their own in place of m3ua.c, so that they
 need no library: the compiler that the bridge finds is a script that puts it there."""
 import os
+import pathlib
 import socket
 import subprocess
 import sys
 
-from harness import FOLDER, LIMIT, SLOW, Lines, must
+from harness import FOLDER, LIMIT, SLOW, Lines, children, must
 from network_harness import ACCEPT, COMPLETE, FIRST, REQUEST, TAKEN, UPDATE, assigned, burst, leave, said, say, sent
 
 # The compiler is asked for the program by its third word. The program joins its lines to a socket.
@@ -143,6 +144,21 @@ def lines_that_end(start, room, _program):
     run.end()
 
 
+def not_begun_anew(start, room, _program):
+    """Over M3UA: the program ends, and can't be begun for a while, as where no file can be opened: the bridge goes on, and tries
+    again."""
+    run, centre, _station = started(start, room)
+    commands = [pathlib.Path(f"/proc/{it}/cmdline").read_text().split("\0") for it in children(run.process.pid)]
+    (path,) = [pathlib.Path(word) for words in commands for word in words if word.endswith("/m3ua")]
+    elsewhere = path.rename(path.parent / "elsewhere")
+    centre.lose()
+    run.said.expect("A: no link to 127.0.0.1, port .*: the link ended")
+    run.said.expect("A: no link to 127.0.0.1, port .*: .*No such file")
+    elsewhere.rename(path)
+    centre.come(run)
+    run.end()
+
+
 def no_compiler(start, room, _program):
     """Over M3UA, where the program can't be built: the bridge says why, and doesn't begin."""
     start().stop()
@@ -160,5 +176,6 @@ CHECKS = [
     lines_of_a_registration,
     lines_of_others,
     lines_that_end,
+    not_begun_anew,
     no_compiler,
 ]

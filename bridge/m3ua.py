@@ -7,6 +7,7 @@ import subprocess
 import tempfile
 
 import sccp
+from child import begin
 from connections import Connection, State
 from stream import Lines, Stream
 from tell import say
@@ -15,6 +16,8 @@ SOURCE = pathlib.Path(__file__).resolve().parent / "m3ua.c"
 LIBRARIES = ("-losmo-sigtran", "-losmocore", "-ltalloc")
 # Where the program counts from for connections that it is asked for; those that the other side asks for have smaller numbers.
 FIRST = 0x400000
+# Where the program says something, as the bridge does.
+STANDARD_ERROR = 2
 
 
 def build(folder):
@@ -49,17 +52,14 @@ class M3ua:
     # The link
 
     def start(self):
-        """Begins the program, which opens the link."""
+        """Begins the program, which opens the link; where it can't be begun, again after a while."""
         self.program = self.program or build(self.folder.name)
         it = self.centre
-        words = [self.program, it.address, it.port, it.own, it.peer]
-        pipe = subprocess.PIPE
-        self.process = subprocess.Popen([str(word) for word in words], stdin=pipe, stdout=pipe, start_new_session=True)
-        reads, writes = (os.dup(file.fileno()) for file in (self.process.stdout, self.process.stdin))
-        self.process.stdout.close()
-        self.process.stdin.close()
-        for number in (reads, writes):
-            os.set_blocking(number, False)
+        try:
+            self.process, writes, reads = begin([self.program, it.address, it.port, it.own, it.peer], STANDARD_ERROR)
+        except OSError as error:
+            self.lose(str(error))
+            return
         lines = Lines(self.heard)
         self.stream = Stream(self.selector, reads, writes, lines.add, lambda: self.lose("the link ended"))
         self.times.set("centre", self.seconds["patience"], lambda: self.lose("the centre's link doesn't come up"))

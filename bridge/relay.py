@@ -14,17 +14,31 @@ from stations import ACTIVATING, CLOSING, LEAVING, ON, RELEASING, Station, Use
 from tell import now, say, show
 from views import Views
 
-# How many octets may wait for the controller before nothing more is read from stations.
+# How many octets the controller may have to answer before nothing more is read from stations.
 MOST_UNREAD = 1 << 20
 # Which timer each event of a call arms, and which events end it.
 ARMING = {"command": "T3103", "require": "T7", "order": "T8"}
 DISARMING = ("complete", "undo", "left")
 # A message of a station that the controller takes in, and messages that it sends.
-CAME = re.compile(rb"in abis (\d+) (\d+) ([0-9a-f]*)")
-SENT = re.compile(rb"out abis (\d+) (\d+) ([0-9a-f]*)")
-SENT_ON_A = re.compile(rb"out a (\d+) ([0-9a-f]*)")
+CAME = re.compile(rb"in abis (\d+) (\d+) ([0-9a-f]+)")
+SENT = re.compile(rb"out abis (\d+) (\d+) ([0-9a-f]+)")
+SENT_ON_A = re.compile(rb"out a (\d+) ([0-9a-f]+)")
+# The lines of a controller by which something is done, in front of their words, and how they are written.
+DOING = (b"in ", b"line ", b"event ", b"out ")
+# And by which nothing is.
+KNOWN = (*DOING, b"none free ", b"fault ", b"summary ", b"end ", b"state ", b"decision ", b"sim limit")
+READABLE = re.compile(
+    rb"in (?:abis \d+ \d+ (?:[0-9a-f]{2})+|a \d+ (?:[0-9a-f]{2})+|(?!abis |a )[a-z]+ .*)"
+    rb"|line \d+"
+    rb"|out (?:abis \d+ \d+|a \d+) (?:[0-9a-f]{2})+"
+    rb"|event (?:(?:confirm|refuse|detect|released|owner) CHANNEL|open \d+ CHANNEL|take \d+ \w+ CHANNEL|undo \d+ \w+"
+    rb"|(?:clear|look|reserve|activate|command|complete|require|order|left) \d+(?: \d+)?)"
+    rb" -> (?:done|owned \d+|record(?: [0-9a-z/-]+)+|refused \d+(?: [0-9/]+)*)".replace(b"CHANNEL", rb"\d+/\d+/[0-7](?:/[01])?")
+)
 # The first of the lines that answer what came so far (docs/PROGRAM.md, live): it isn't echoed, nor in a journal.
 FIRST_OF_SUMMARY = re.compile(rb"summary all +\d+ calls opened")
+# What is counted, by the first word of a line.
+COUNTED = (b"in", b"line", b"none", b"fault")
 # How the lines of its answers begin that a journal has too.
 NOTED = (b"in ", b"line ", b"event ", b"none free ", b"fault ", b"out ")
 # Why the controller can't read a line, by its number, and how long that is waited for.
@@ -56,6 +70,8 @@ class Relay:
         # bridge in a station's place; and with what the station was asked that the line answers. Then both of the one that
         # the controller answers now.
         self.given = collections.deque()
+        # how many octets these have
+        self.unanswered = 0
         self.giver = self.answered = None
         # The number of the channel which a message that it answers is about.
         self.about = None
@@ -63,11 +79,13 @@ class Relay:
         self.unreadable, self.reasons = {}, {}
         self.unread = 0
         # The line that was answered last, and how many lines of the answer were heard, of those that a journal notes; None for
-        # all of them. Whether the controller isn't there just now, so that lines wait, and how many octets do.
+        # all of them. Whether the controller isn't there just now, so that lines wait.
         self.line, self.heard = 0, None
-        self.is_away, self.held = False, 0
+        self.is_away = False
         # whether it has done all that it was given, and ended
         self.is_done = False
+        # whether it has printed a line that no controller prints
+        self.is_strayed = False
         self.again = None
         # what came of lines, by how the controller's lines begin; and events, by name and reply
         self.counts, self.events = collections.Counter(), collections.Counter()
@@ -88,15 +106,14 @@ class Relay:
             say(f"not given, the controller ends: {shown(line)}")
             return
         self.given.append((line, giver, answered))
-        if self.is_away:
-            self.held += len(line)
-        else:
+        self.unanswered += len(line)
+        if not self.is_away:
             self.core.send(line + b"\n")
             self.again.watch.await_answer()
 
     def is_busy(self):
-        """Whether the controller has more to read than it should, or will have."""
-        return self.held > MOST_UNREAD or self.core is not None and len(self.core.waiting) > MOST_UNREAD
+        """Whether the controller has more to answer than it should, or will have."""
+        return self.unanswered > MOST_UNREAD
 
     def is_awaited(self, operator):
         """Whether something is yet to come of an operator's lines."""
@@ -110,13 +127,19 @@ class Relay:
 
     # Lines of the controller
 
+    def is_readable(self, line):
+        """Whether a line is none by which something is done, or is written as a controller writes it."""
+        return not line.startswith(DOING) or READABLE.fullmatch(line.split(b" # ")[0]) is not None
+
     def hear(self, line):
         """Hears a line of the controller, and does what it says."""
         if line.startswith(b"end "):
-            if self.is_away:
+            if self.is_away or self.again.can_be_again() and not self.core.is_last:
                 # another goes on
                 return
             self.is_done = True
+        elif not line.startswith(KNOWN):
+            self.tell_stray(line)
         if line.startswith((b"in ", b"line ")) or FIRST_OF_SUMMARY.match(line):
             self.begin_answer(line)
         if line.startswith(NOTED):
@@ -128,9 +151,16 @@ class Relay:
         show(line)
         self.act(line.split(b" # ")[0])
 
+    def tell_stray(self, line):
+        """A line is none of a controller's; the first is told."""
+        if not self.is_strayed:
+            self.is_strayed = True
+            say(f"the controller prints what isn't known: {shown(line)}")
+
     def act(self, line):
         """Does what a line of the controller says."""
-        self.counts[line.split(b" ", 1)[0].decode()] += 1
+        if (word := line.split(b" ", 1)[0]) in COUNTED:
+            self.counts[word.decode()] += 1
         if line.startswith(b"line "):
             self.await_reason(int(line.split()[1]))
         elif sent := SENT.fullmatch(line):
@@ -162,6 +192,7 @@ class Relay:
         if not self.given:
             return
         text, self.giver, self.answered = self.given.popleft()
+        self.unanswered -= len(text)
         if line.startswith(b"line "):
             self.unreadable[int(line.split()[1])] = (text, self.giver)
         elif self.log and line.startswith(b"in "):

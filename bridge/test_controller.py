@@ -7,7 +7,8 @@ PROGRAM is a build of bsc_lab. Each line is given to `PROGRAM live SITE`, and wh
 is printed; so are the lines themselves, by which a new PROGRAM gets the book that the last one had. FOLDER/plan says, a
 line each, where the controller is killed: `N STAGE`, at line N: `given` (it isn't noted yet), `cut` (half of it is), `noted`
 (nothing is printed), `torn` (half of its first line is), or how many of its lines are printed; or that it is `stopped` once it
-has noted the line, `computes` without end, or waits in a `disk` until somebody opens FOLDER/disk and closes it. What has
+has noted the line, `computes` without end, or waits in a `disk` until somebody opens FOLDER/disk and closes it; that it prints
+what no controller does in front of it (`garbled`); or that it `ends` behind it as if nothing more was to come. What has
 happened is taken out of it. While there is FOLDER/hold it doesn't begin, or go on.
 """
 import os
@@ -22,6 +23,8 @@ import zlib
 
 # Stages at which it isn't killed.
 HANGING = ("stopped", "computes", "disk")
+# What it prints that no controller does.
+GARBLED = b"event open 1 \xff -> done\n"
 REASON = re.compile(rb"standard input:(\d+): (.*\n)")
 
 
@@ -144,6 +147,13 @@ class Controller:
         if stage in HANGING:
             self.hang(stage)
             stage = None
+        if stage in ("garbled", "ends"):
+            self.kill(0)
+            os.write(1, (GARBLED if stage == "garbled" else b"") + b"".join(answer))
+            if stage == "ends":
+                os.write(1, self.live.end())
+                sys.exit(0)
+            return
         if stage == "noted":
             self.kill()
         if stage == "torn":

@@ -1,0 +1,55 @@
+"""Processes that the bridge begins. Where the bridge is killed they are too, whatever they do: one that is stopped would stay, with
+the lock of its journal."""
+import contextlib
+import os
+import signal
+import subprocess
+
+# What the system is told by a process that is to be killed with the thread that began it (prctl(2)).
+PR_SET_PDEATHSIG = 1
+try:
+    import ctypes
+
+    PRCTL = ctypes.CDLL(None).prctl
+except (ImportError, OSError, AttributeError, MemoryError):
+    # it isn't to be had here
+    PRCTL = None
+
+
+def begin(command, said=None):
+    """Begins a process with a group of its own; itself, and the ends of pipes: where it is given something, where it prints, and
+    where it says something on standard error, unless that is `said`. Where that can't be done nothing of it is left."""
+    with contextlib.ExitStack() as opened:
+        (given, writes), (reads, printed) = pipe(opened), pipe(opened)
+        errors, own = pipe(opened) if said is None else (None, said)
+        settings = {"start_new_session": True, "preexec_fn": with_parent(os.getpid())}
+        process = subprocess.Popen([str(word) for word in command], stdin=given, stdout=printed, stderr=own, **settings)
+        opened.pop_all()
+    for number in {given, printed, own} - {said}:
+        os.close(number)
+    ends = [it for it in (writes, reads, errors) if it is not None]
+    for number in ends:
+        os.set_blocking(number, False)
+    return process, *ends
+
+
+def pipe(opened):
+    """A pipe, whose ends are closed where what is opened is."""
+    ends = os.pipe()
+    for number in ends:
+        opened.callback(os.close, number)
+    return ends
+
+
+def with_parent(parent):
+    """What a process does before it becomes another program, so that it is killed with its parent; None where that isn't to be had.
+    Other threads are no matter of it: it waits for nothing that they may have."""
+    if PRCTL is None:
+        return None
+
+    def act():
+        PRCTL(PR_SET_PDEATHSIG, int(signal.SIGKILL), 0, 0, 0)
+        if os.getppid() != parent:
+            os._exit(1)
+
+    return act
