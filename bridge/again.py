@@ -24,7 +24,7 @@ SOON = 0.02
 # One that ended though it had done nothing since it was started is started again behind a pause: not the first time, then behind
 # the first of these, and each time behind twice as long a one, up to the second.
 PAUSE, LONGEST_PAUSE = 0.1, 10.0
-# One that ran for so long hasn't been started in vain, though it had nothing to do.
+# One that was there for so long, and has nothing to do, hasn't been started in vain.
 LASTING = 60.0
 # How many lines it may print before it goes on, which answer nothing.
 MOST_EARLY = 1000
@@ -81,6 +81,7 @@ class Again:
         self.bridge.start_core(self.command)
         if is_resuming:
             self.times.set("resume", LONGEST, self.is_too_slow)
+            self.watch.await_answer()
         elif not self.is_new:
             self.give_again()
         self.is_new = self.is_new and is_resuming
@@ -101,12 +102,16 @@ class Again:
         self.watch.go_on()
         try:
             self.resume(int(found[1]))
-        except (JournalError, OSError) as error:
+        except JournalError as error:
             if self.upgrading:
                 say(f"{self.upgrading.program}: {error}, and is killed")
                 self.bridge.kill_core()
             else:
                 self.fail(str(error))
+        except OSError as error:
+            # another time that may be possible, as where no file can be opened just now
+            say(f"the journal can't be read, and the controller is killed: {error}")
+            self.bridge.kill_core()
         return True
 
     def passes_over(self, line):
@@ -150,7 +155,7 @@ class Again:
             self.upgrading.line = relay.line
         if relay.log:
             relay.log.note("another controller goes on here, which gathers measurements anew")
-        relay.is_away, relay.held = False, 0
+        relay.is_away = False
         relay.core.send(b"".join(line + b"\n" for line, *_ in relay.given))
         self.watch.await_answer()
         if self.bridge.is_ending:
@@ -204,7 +209,8 @@ class Again:
 
     def pause(self, now):
         """How long is waited until it is started again. A bridge that ends doesn't wait."""
-        if self.relay.line > self.begun or now - self.begun_at > LASTING:
+        lasted = self.early is None and now - self.begun_at > LASTING and not self.relay.given
+        if self.relay.line > self.begun or lasted:
             self.vain = 0
         self.vain += 1
         if self.vain == 1 or self.bridge.is_ending:
@@ -238,7 +244,8 @@ class Again:
         try:
             self.start()
         except OSError as error:
-            self.relay.is_away, why = True, f"the controller can't be started: {error}"
+            self.relay.is_away = True
+            why = f"the controller can't be started: {error}"
             if self.bridge.is_ending:
                 self.fail(why)
             else:
@@ -281,8 +288,9 @@ class Again:
             self.go_elsewhere("")
             return
         self.relay.is_away = True
-        self.relay.core.finish()
         self.times.set("resume", LONGEST, self.is_too_slow)
+        self.watch.await_answer()
+        self.relay.core.finish()
 
     def objection(self, program):
         """Why a program can't be started in the controller's place; None where that can be tried."""
@@ -314,9 +322,10 @@ class Again:
         """The controller has a book that another bridge had, whose links are gone: all of it ends. What stations were asked is
         answered in their place, calls are cleared in the centre's."""
         relay = self.relay
+        events = [Event.of(line.decode()) for line in self.journal.book(last) if line.startswith(b"event ")]
         self.is_new = False
         relay.line, relay.heard = last, None
-        for event in filter(None, (Event.of(line.decode()) for line in self.journal.book(last) if line.startswith(b"event "))):
+        for event in filter(None, events):
             relay.calls.follow(event)
         channels, calls = relay.calls.channels, sorted(relay.calls.calls, key=int)
         given, relay.given = list(relay.given), type(relay.given)()

@@ -23,13 +23,14 @@ class Watch:
 
     def begin(self):
         """A controller begins. Until it has answered something, or goes on over its journal, it may take any time, as to be built,
-        unless it is stopped."""
+        and so it may while it ends, unless it is stopped."""
         self.begun, self.has_gone_on = self.relay.line, False
         self.forget()
 
     def go_on(self):
         """It goes on over its journal."""
         self.has_gone_on = True
+        self.forget()
 
     def forget(self):
         """It isn't waited for."""
@@ -38,14 +39,14 @@ class Watch:
         self.place, self.parts, self.hanging, self.used = None, 0, 0.0, None
 
     def await_answer(self):
-        """It has a line to answer."""
+        """It has a line to answer, or is to go on, or to end."""
         if not self.times.is_set("watch"):
             self.times.set("watch", self.seconds / PARTS, self.look)
 
     def look(self):
         """Looks whether more of an answer was heard, and else at the controller."""
         relay, place = self.relay, (self.relay.line, self.relay.heard)
-        if relay.is_away or relay.core is None or relay.core.is_last or not relay.given:
+        if relay.core is None or not (relay.given or self.is_between()):
             self.forget()
             return
         if place != self.place:
@@ -59,31 +60,43 @@ class Watch:
             self.bridge.kill_core()
             return
         if self.parts == PARTS:
-            say(f"the controller answers nothing for {self.seconds:g} seconds: it waits for a disk or a processor, or is beginning")
+            doing = "is ending, or beginning" if self.is_between() else "waits for a disk or a processor, or is beginning"
+            say(f"the controller answers nothing for {self.seconds:g} seconds: it {doing}")
         self.await_answer()
+
+    def is_between(self):
+        """Whether it is to go on over its journal yet, or to end."""
+        return self.relay.is_away or self.relay.core.is_last
 
     def hangs(self):
         """For how much of the last part it hangs, from 0 to 1: what it computes counts as far as it had a processor."""
         states, used = processes(self.bridge.core.pid)
+        if not states:
+            # that can't be seen just now
+            return 0
         before, self.used = self.used if self.used is not None else used, used
         if DISK in states:
             return 0
-        if not (self.has_gone_on or self.relay.line > self.begun):
+        if self.is_between() or not (self.has_gone_on or self.relay.line > self.begun):
             return int(states <= STOPPED)
         if RUNNING in states:
-            return min(1, (used - before) * PARTS / self.seconds)
+            return min(1, max(0, used - before) * PARTS / self.seconds)
         return 1
 
 
 def processes(group):
-    """The states of a group's processes, and how many seconds they had of processors."""
+    """The states of a group's processes, none where they can't be read just now, and how many seconds they had of processors."""
     states, ticks = set(), 0
-    for path in pathlib.Path("/proc").glob("[0-9]*/stat"):
+    try:
+        numbers = [it for it in os.listdir("/proc") if it.isdecimal()]
+    except OSError:
+        return states, 0
+    for number in numbers:
         try:
             # behind the name, in which anything may stand
-            words = path.read_text(errors="replace").rpartition(") ")[2].split()
+            words = pathlib.Path(f"/proc/{number}/stat").read_text(errors="replace").rpartition(") ")[2].split()
         except OSError:
-            # it is gone meanwhile
+            # it is gone meanwhile, or no file can be opened
             continue
         if int(words[GROUP]) == group:
             states.add(words[STATE])
