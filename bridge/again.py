@@ -254,6 +254,8 @@ class Again:
     def fail(self, why):
         """No controller can go on: the bridge ends, and not well."""
         self.has_failed = True
+        if self.bridge.is_ending:
+            say(why)
         self.end(why)
 
     def end(self, why):

@@ -274,7 +274,8 @@ class Bridge:
         self.relay.tell_all()
         if self.relay.log:
             self.relay.log.finish()
-        say(f"the controller ended with status {status}; lines that it couldn't read: {self.relay.unread}")
+        undone = f", that it hasn't done: {len(self.relay.given)}" if self.relay.given else ""
+        say(f"the controller ended with status {status}; lines that it couldn't read: {self.relay.unread}{undone}")
         return status if status > 0 else int(status < 0 or self.again.has_failed)
 
     def take_what_comes(self, seconds):

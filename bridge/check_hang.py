@@ -100,6 +100,8 @@ def ended_in_a_pause(start, room, program):
         bridge.said.expect("ends: signal 15$")
         bridge.wait(0 if is_over else 3)
         must(("event clear 1 -> done" in bridge.out.lines) == is_over, "what waits isn't done")
+        why = [line for line in bridge.said.lines if line.endswith((" in a row having done nothing", ", that it hasn't done: 1"))]
+        must(len(why) == (0 if is_over else 2), f"it says why by {why}")
         remove(room / "journal")
         (room / "trouble").unlink(missing_ok=True)
 

@@ -11,7 +11,7 @@ import time
 
 import child as beginning
 from check_again import CONTROLLER, OFTEN, await_messages, bridge_with, catch_up, controller, journaled, leave_open, plan
-from check_again import program_that, received, stopped
+from check_again import program_that, received, small_disk, stopped
 from check_hang import AGAIN, at_the_next_line, clear_it, last_line, open_one
 from harness import FOLDER, LIMIT, SITE, Asker, LeftOut, child, must
 
@@ -146,6 +146,20 @@ def unread_journal(start, room, program):
     catch_up(bridge)
     bridge.end()
     must(bridge.out.lines[-1] == "end channels=0 calls=0 references=0 timers=0", f"{bridge.out.lines[-1]}")
+
+
+def figures_without_room(start, room, program):
+    """The disk of the figures is full as the bridge begins: it begins all the same, says so, and writes them once there is room. It
+    needs a namespace of mounts, and is left out where there is none."""
+    with small_disk(room) as disk:
+        disk.fill()
+        figures = room / "journal" / "figures"
+        words = ("--figures", figures, "--figures-every", "0.1")
+        bridge = start(*words, core=(program, "live", SITE), abis=disk.program("abis", FOLDER / "abis"))
+        bridge.said.find("figures: the figures can't be written now: .*No space left on device$", 0)
+        disk.empty()
+        bridge.said.find("figures: the figures are written again$", 0)
+        bridge.end()
 
 
 # Controllers that do nothing
@@ -287,4 +301,4 @@ def told_to_end(start, _room, _program):
 
 
 CHECKS = [garbage, garbled, ends_in_the_middle, no_other_file, very_many_files, unread_journal, bounded_waiting, never_goes_on]
-CHECKS += [dies_of_a_line, stopped_between, killed_together, told_to_end]
+CHECKS += [figures_without_room, dies_of_a_line, stopped_between, killed_together, told_to_end]

@@ -1,5 +1,6 @@
 """Figures of links, of calls, and of what came of the lines, in a file that is replaced whole every so many seconds."""
 import collections
+import errno
 import os
 import stat
 import time
@@ -22,18 +23,20 @@ class FiguresFile:
         self.is_failing = False
         if os.path.lexists(path) and not stat.S_ISREG(os.lstat(path).st_mode):
             raise OSError(f"{path!r}: is there, and is no file")
-        self.put()
-        self.wait()
+        self.write(is_first=True)
 
     def wait(self):
         """Has it written again later."""
         self.times.set("figures", self.seconds, self.write)
 
-    def write(self):
-        """Writes it, and again later. Where it can't be written the old one stays; that is told once."""
+    def write(self, is_first=False):
+        """Writes it, and again later. Where it can't be written the old one stays; that is told once. Where it never was, and that
+        isn't for want of room, it is wrong."""
         try:
             self.put()
         except OSError as error:
+            if is_first and error.errno not in (errno.ENOSPC, errno.EDQUOT):
+                raise
             if not self.is_failing:
                 say(f"{self.path}: the figures can't be written now: {error}")
             self.is_failing = True
