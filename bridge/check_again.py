@@ -453,6 +453,37 @@ def stopped(group):
             os.killpg(group, signal.SIGKILL)
 
 
+def much_while_it_is_away(start, room, program):
+    """While the controller is away a timer of a handover runs out, the target's link is lost, its station comes again, and an
+    operator asks for a call: then all of that is done."""
+    core = (controller(room, program), "live", SITE, "--journal", room / "journal")
+    bridge = start("--log", room / "log", "--t3103", SLOW, *OFTEN, core=core)
+    bridge.station(FIRST)
+    other = bridge.station(SECOND, trx=1)
+    bridge.ask("open 1 0 0 3")
+    bridge.expect("record 0/0/3 on$")
+    bridge.ask("handover 1 1")
+    bridge.expect("^event command 1 -> done$")
+    (room / "journal" / "hold").touch()
+    os.killpg(child(bridge), signal.SIGKILL)
+    bridge.said.expect("is started again$")
+    time.sleep(SLOW + 1)
+    other.leave()
+    bridge.said.expect("its link is lost, with 1 channels$")
+    bridge.stations.remove(other)
+    bridge.station(SECOND, trx=1)
+    bridge.ask("open 2 0 0 2")
+    (room / "journal" / "hold").unlink()
+    bridge.expect("^in expire 1 T3103$", "^event undo 1 t3103 -> record ", "record 0/0/2 on$")
+    settle(bridge)
+    agreeing = ["channel 0/0/2: on for call 2; station: on", "channel 0/0/3: on for call 1; station: on"]
+    must(told(bridge, "calls")[:2] == agreeing, "channels differ, or more are in use")
+    bridge.ask("clear 1\nclear 2")
+    settle(bridge)
+    bridge.end()
+    must(bridge.out.lines[-1] == "end channels=0 calls=0 references=0 timers=0", f"{bridge.out.lines[-1]}")
+
+
 def ends_while_it_is_away(start, room, program):
     """The bridge is told to end while the controller is away, with lines that wait: that one goes on, does them, and ends. Told
     once more, the bridge doesn't wait for it."""
@@ -586,4 +617,4 @@ def leave_open(bridge, is_on):
 KILLED = [killed_at(stage) for stage in STAGES]
 CHECKS = [*KILLED, really_killed, dies_each_time, a_slow_one, not_upgraded, upgraded, no_journal, another_journal]
 CHECKS += [asks_for_a_summary, begun_anew, killed_as_it_begins, full_disk, upgraded_while_it_hangs]
-CHECKS += [ends_while_it_is_away]
+CHECKS += [much_while_it_is_away, ends_while_it_is_away]

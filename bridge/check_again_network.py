@@ -6,11 +6,13 @@ import random
 import re
 import signal
 
+from centre import RESET
 from check_again import OFTEN, book, compare, controller, everywhere, needs_journal, plan, told, trace, without_pings
 from check_moves import begin_moving
 from harness import FOLDER, LIMIT, child, must
 from load import LoadStation, SpeakingCentre
-from network_harness import FIRST, OF_CENTRE, OF_GATEWAY, OF_MOBILES, SECOND, clear, emptied, register, said, say, sent
+from network_harness import FIRST, OF_CENTRE, OF_GATEWAY, OF_MOBILES, SECOND, UPDATE, assigned, burst, clear, emptied, register
+from network_harness import said, say, sent
 from speech_harness import deleted, joined, speak, start_call
 
 # What is asked of the gateway: numbers of transactions, calls and sessions differ from run to run.
@@ -146,4 +148,38 @@ def killed_under_load(start, room, program):
     run.end()
 
 
-CHECKS = [killed_under_load, in_a_network(a_registration, "1"), *(in_a_network(a_call, stage) for stage in STAGES)]
+def anew_while_it_is_away(start, room, program):
+    """While the controller is away the centre begins anew, or its link is lost, and a mobile asks for a channel: once the controller
+    goes on the call of before ends, and the mobile makes itself known."""
+    for is_link_lost in (False, True):
+        inner = room / str(is_link_lost)
+        inner.mkdir()
+        core = (controller(inner, program), "live", "--journal", inner / "journal")
+        run = start(words=OFTEN, core=core, folder=inner)
+        station = run.begin()
+        number, _ = register(run, station)
+        (inner / "journal" / "hold").touch()
+        os.kill(child(run), signal.SIGKILL)
+        run.said.expect("is started again$")
+        if is_link_lost:
+            run.centre.lose()
+            run.said.expect("A: the link is lost")
+        else:
+            run.centre.send(RESET)
+            run.said.expect("A: the centre begins anew")
+        run.said.expect("A: the centre is there")
+        burst(station, "060a0d")
+        station.settle()
+        (inner / "journal" / "hold").unlink()
+        sent(station, f"030101{number}02000b0003060d..")
+        other = assigned(station, "060a0d")
+        say(station, f"020901{number}0200")
+        sent(station, f"082e01{number}")
+        say(station, f"020601{other}02000b{len(UPDATE) // 2:04x}{UPDATE}")
+        connection = run.centre.begun(UPDATE)
+        clear(run, station, other, connection)
+        emptied(run)
+        run.end()
+
+
+CHECKS = [killed_under_load, anew_while_it_is_away, in_a_network(a_registration, "1"), *(in_a_network(a_call, stage) for stage in STAGES)]
