@@ -149,8 +149,8 @@ def killed_under_load(start, room, program):
 
 
 def anew_while_it_is_away(start, room, program):
-    """While the controller is away the centre begins anew, or its link is lost, and a mobile asks for a channel: once the controller
-    goes on the call of before ends, and the mobile makes itself known."""
+    """While the controller is away the centre begins anew, or its link is lost, and a mobile asks for a channel: once the
+    controller goes on the call of before ends, and the mobile makes itself known."""
     for is_link_lost in (False, True):
         inner = room / str(is_link_lost)
         inner.mkdir()
@@ -182,4 +182,5 @@ def anew_while_it_is_away(start, room, program):
         run.end()
 
 
-CHECKS = [killed_under_load, anew_while_it_is_away, in_a_network(a_registration, "1"), *(in_a_network(a_call, stage) for stage in STAGES)]
+CHECKS = [killed_under_load, anew_while_it_is_away, in_a_network(a_registration, "1")]
+CHECKS += [in_a_network(a_call, stage) for stage in STAGES]
