@@ -251,12 +251,13 @@ class Bridge:
             self.errors.read()
         self.errors.close()
 
-    def pause(self, is_busy):
+    def pause(self):
         """Reads nothing for the controller while it is busy."""
-        self.links.pause(is_busy)
+        self.links.pause(self.relay.is_busy())
+        is_asked_much = self.relay.is_asked_much()
         for client in self.clients:
-            client.stream.pause("busy", is_busy)
-        self.operator.pause("busy", is_busy)
+            client.stream.pause("busy", is_asked_much)
+        self.operator.pause("busy", is_asked_much)
 
     def run(self):
         """Does what comes, until the controller has ended; its status, which is 1 where none can go on."""
@@ -265,7 +266,7 @@ class Bridge:
             self.take_what_comes(0 if self.links.behind else self.times.seconds_left())
             self.links.take_turns()
             self.times.run_due()
-            self.pause(self.relay.is_busy())
+            self.pause()
         self.relay.endings.finish()
         for link in list(self.links.all):
             link.close()
@@ -289,8 +290,8 @@ class Bridge:
                 key.data.ready(mask)
             else:
                 key.data(mask)
-            if self.relay.is_busy():
-                self.pause(True)
+            if self.relay.is_busy() or self.relay.is_asked_much():
+                self.pause()
 
 
 def watch_cable(connection, seconds):

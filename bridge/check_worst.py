@@ -12,7 +12,7 @@ import time
 import child as beginning
 from check_again import CONTROLLER, OFTEN, await_messages, bridge_with, catch_up, controller, journaled, leave_open, plan
 from check_again import program_that, received, small_disk, stopped
-from check_hang import AGAIN, at_the_next_line, clear_it, last_line, open_one
+from check_hang import AGAIN, TROUBLED, at_the_next_line, clear_it, last_line, open_one
 from harness import FOLDER, LIMIT, SITE, Asker, LeftOut, child, must
 
 # A line that comes to nothing.
@@ -190,6 +190,32 @@ def bounded_waiting(start, room, program):
     bridge.end()
 
 
+def asked_nevertheless(start, room, program):
+    """A station has filled what may wait while the controller is started again and again: operators are answered all the same, and
+    another program takes its place."""
+    core = (controller(room, program, first=TROUBLED), "live", SITE, "--journal", "journal")
+    settings = "1 << 14; import again; again.PAUSE = again.LONGEST_PAUSE = 1000"
+    figures = ("--figures", "figures", "--figures-every", "0.1")
+    bridge = start(*OFTEN, *figures, "--control", "control", core=core, abis=bridge_with(room, "relay.MOST_UNREAD", settings))
+    station = open_one(bridge)
+    (room / "trouble").touch()
+    os.killpg(child(bridge), signal.SIGKILL)
+    bridge.said.expect(f"{AGAIN} in 1000 seconds$")
+    before = received(room)
+    # lines of 416 octets, of which 40 are too much to wait
+    for _ in range(60):
+        station.say(bytes.fromhex("0828010b") + bytes(196))
+    await_messages(room, before + 40)
+    operator = Asker(room / "control")
+    operator.ask(f"stations\nupgrade {controller(room, program, 'other')}\n{VAIN}\n")
+    operator.expect("^station 6969/0/0 .*: there since ", "^.*other: goes on behind line [0-9]+$", f"^in {VAIN}$")
+    operator.leave()
+    await_messages(room, before + 60)
+    clear_it(bridge)
+    bridge.process.terminate()
+    bridge.wait(0)
+
+
 def never_goes_on(start, room, program):
     """A controller that never goes on, however long each takes, is given up."""
     settings = "0.5; again.LASTING = 0.1; again.PERIOD = 0.0"
@@ -301,4 +327,4 @@ def told_to_end(start, _room, _program):
 
 
 CHECKS = [garbage, garbled, ends_in_the_middle, no_other_file, very_many_files, unread_journal, bounded_waiting, never_goes_on]
-CHECKS += [figures_without_room, dies_of_a_line, stopped_between, killed_together, told_to_end]
+CHECKS += [figures_without_room, asked_nevertheless, dies_of_a_line, stopped_between, killed_together, told_to_end]

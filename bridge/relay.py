@@ -14,7 +14,7 @@ from stations import ACTIVATING, CLOSING, LEAVING, ON, RELEASING, Station, Use
 from tell import now, say, show
 from views import Views
 
-# How many octets the controller may have to answer before nothing more is read from stations.
+# How many octets the controller may have to answer before nothing more is read from stations; of operators as many.
 MOST_UNREAD = 1 << 20
 # Which timer each event of a call arms, and which events end it.
 ARMING = {"command": "T3103", "require": "T7", "order": "T8"}
@@ -70,8 +70,8 @@ class Relay:
         # bridge in a station's place; and with what the station was asked that the line answers. Then both of the one that
         # the controller answers now.
         self.given = collections.deque()
-        # how many octets these have
-        self.unanswered = 0
+        # how many octets those of operators have, and all others
+        self.asked = self.unanswered = 0
         self.giver = self.answered = None
         # The number of the channel which a message that it answers is about.
         self.about = None
@@ -106,14 +106,26 @@ class Relay:
             say(f"not given, the controller ends: {shown(line)}")
             return
         self.given.append((line, giver, answered))
-        self.unanswered += len(line)
+        self.count_given(len(line), giver)
         if not self.is_away:
             self.core.send(line + b"\n")
             self.again.watch.await_answer()
 
+    def count_given(self, octets, giver):
+        """So many octets more, or less, are in the lines that the controller has to answer."""
+        if isinstance(giver, Operator):
+            self.asked += octets
+        else:
+            self.unanswered += octets
+
     def is_busy(self):
-        """Whether the controller has more to answer than it should, or will have."""
+        """Whether the controller has more to answer than it should, or will have. What operators ask is no matter of it."""
         return self.unanswered > MOST_UNREAD
+
+    def is_asked_much(self):
+        """Whether it has more of operators to answer than it should. Where others fill what may wait they can ask still, as for
+        another program in the controller's place."""
+        return self.asked > MOST_UNREAD
 
     def is_awaited(self, operator):
         """Whether something is yet to come of an operator's lines."""
@@ -192,7 +204,7 @@ class Relay:
         if not self.given:
             return
         text, self.giver, self.answered = self.given.popleft()
-        self.unanswered -= len(text)
+        self.count_given(-len(text), self.giver)
         if line.startswith(b"line "):
             self.unreadable[int(line.split()[1])] = (text, self.giver)
         elif self.log and line.startswith(b"in "):
