@@ -61,8 +61,8 @@ def records_of(path):
         octets = it.read()
     at = octets.index(b"\n") + 1
     while at + 67 <= len(octets):
-        _word, number, size, _sum, _own = octets[at:at + 66].split(b" ")
-        if len(octets) < at + 67 + int(size):
+        word, number, size, _sum, _own = (octets[at:at + 66].split(b" ") + 5 * [b""])[:5]
+        if word != b"record" or len(octets) < at + 67 + int(size):
             break
         yield int(number), octets[at + 67:at + 67 + int(size)].decode()
         at += 67 + int(size)
