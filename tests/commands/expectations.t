@@ -224,7 +224,7 @@ A text that no line can begin with, nor be in words, would never be missed: it i
   script.txt:23: never missed: a blank stands behind ;
   script.txt:24: never missed: a trace has octets in small letters
 
-So is a message that controllers are sent, and don't send. (`in` may have any: a line may give it.)
+So is a message that controllers don't send. (`in` may have any: a line may give it.)
 
   $ cat >script.txt <<'END'
   > open 1 0 0 3
@@ -235,12 +235,15 @@ So is a message that controllers are sent, and don't send. (`in` may have any: a
   > #! out abis 0 1 MEASUREMENT RESULT tn=3
   > #! out abis 0 1 CHANNEL REQUIRED
   > #! in abis 0 0 CHANNEL ACTIVATION NACK
+  > #! out abis 0 0 DATA REQUEST tn=3 link=0 layer3=062c00; HANDOVER COMPLETE
+  > #! out abis 0 0 DATA REQUEST tn=3 link=0 layer3=062b; HANDOVER COM
   > END
   $ ./lab test examples/two_cells.toml script.txt 2>&1 >/dev/null
-  script.txt:2: never missed: "CHANNEL ACTIVATION NACK" comes, and isn't sent
-  script.txt:3: never missed: "CLEAR COMMAND" comes, and isn't sent
-  script.txt:6: never missed: "MEASUREMENT RESULT" comes, and isn't sent
-  script.txt:7: never missed: "CHANNEL REQUIRED" comes, and isn't sent
+  script.txt:2: never missed: controllers send no "CHANNEL ACTIVATION NACK"
+  script.txt:3: never missed: controllers send no "CLEAR COMMAND"
+  script.txt:6: never missed: controllers send no "MEASUREMENT RESULT"
+  script.txt:7: never missed: controllers send no "CHANNEL REQUIRED"
+  script.txt:9: never missed: controllers send no "HANDOVER COMPLETE"
   [1]
 
 What else isn't met stands behind these; a script that can't be read is refused all the same.

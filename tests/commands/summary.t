@@ -268,14 +268,14 @@ A line that begins as one that is counted has to be one.
   line 2
   2 bad.trace:2: no line of a trace, as run prints it
   line 1
-  2 bad.trace:1: no line of a trace, as run prints it
+  2 bad.trace:1: in the trace of two controllers 1: or 2: stands before this line
 
 Two traces in one file are none: of two controllers each line that is counted has a mark.
 
   $ ./lab run examples/two_cells.toml examples/one_call.txt >one.trace
   $ cat one.trace examples/handover_between.trace >mixed.trace
   $ ./lab summary mixed.trace 2>&1
-  mixed.trace:1: no line of a trace, as run prints it
+  mixed.trace:1: in the trace of two controllers 1: or 2: stands before this line
   line 1
   [2]
 

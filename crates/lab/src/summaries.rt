@@ -1,5 +1,6 @@
 //! What a trace tells, counted.
 use crate::journal_text::{behind_head, trace_of};
+use attempt_lists::{first_unmarked, is_of_two};
 use lab_runs::run::{LabFault, Status};
 use run_summaries::{RunSummary, SummaryWords, TraceFault, json_text, summary_of_trace};
 use run_views::SummaryForm;
@@ -29,14 +30,16 @@ fn print_summary<W: Write>(
 fn refuse_line<W: Write, E: Write>(
     path: &str,
     number: usize,
+    is_unmarked: bool,
     out: &mut W,
     errors: &mut E,
 ) -> Result<Status, LabFault> {
-    writeln!(
-        errors,
-        "{}:{number}: no line of a trace, as run prints it",
-        Escaped(path)
-    )?;
+    let why = if is_unmarked {
+        "in the trace of two controllers 1: or 2: stands before this line"
+    } else {
+        "no line of a trace, as run prints it"
+    };
+    writeln!(errors, "{}:{number}: {why}", Escaped(path))?;
     writeln!(out, "line {number}")?;
     Ok(Status::Refused)
 }
@@ -70,7 +73,14 @@ pub fn summary_file<R: Files + AllocGlobal, W: Write, E: Write>(
             Ok(Status::Done)
         }
         Err(TraceFault::Line(number)) => {
-            refuse_line(path, before.saturating_add(number), out, errors)
+            let is_unmarked = is_of_two(told) && first_unmarked(told) == Some(number);
+            refuse_line(
+                path,
+                before.saturating_add(number),
+                is_unmarked,
+                out,
+                errors,
+            )
         }
         Err(TraceFault::NoMemory) => Err(LabFault::NoMemory),
     }

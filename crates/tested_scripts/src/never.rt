@@ -20,8 +20,8 @@ pub enum Never<'a> {
     Capitals,
     /// No message is so in words.
     Message(MessageFault<'a>),
-    /// Controllers are sent a message of this name, and send none.
-    Comes(&'a str),
+    /// Controllers send no message of this name.
+    Unsent(&'a str),
     /// In words no blank stands behind a semicolon.
     Glued,
     /// No line of the script stands before it of which anything could come.
@@ -35,7 +35,7 @@ impl fmt::Display for Never<'_> {
             Never::Beginning => write!(f, "no line of a trace begins so"),
             Never::Capitals => write!(f, "a trace has octets in small letters"),
             Never::Message(fault) => write!(f, "{fault}"),
-            Never::Comes(name) => write!(f, "\"{name}\" comes, and isn't sent"),
+            Never::Unsent(name) => write!(f, "controllers send no \"{name}\""),
             Never::Glued => write!(f, "a blank stands behind ;"),
             Never::First => write!(f, "no line stands before it"),
         }

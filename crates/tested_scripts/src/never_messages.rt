@@ -165,16 +165,6 @@ fn is_said(part: &str, may_be_cut: bool) -> bool {
         })
 }
 
-/// What is wrong with a part behind the first: a blank stands before the message inside, or what is said.
-fn inner_fault<'a>(part: &'a str, may_be_cut: bool) -> Option<Never<'a>> {
-    match part.strip_prefix(" ") {
-        Some(words) if is_said(words, may_be_cut) => None,
-        Some(words) => part_fault(RR_FORMS, words, may_be_cut).map(|fault| Never::Message(fault)),
-        None if may_be_cut && part.is_empty() => None,
-        None => Some(Never::Glued),
-    }
-}
-
 /// The messages of a link.
 fn forms_of(link: LinkName) -> &'static [MessageForm<'static>] {
     match link {
@@ -208,16 +198,43 @@ const SENT_ON_A: &[&str] = &[
     "HANDOVER REQUIRED",
 ];
 
+/// The messages that they send to mobiles (TS 44.018 clause 9.1).
+const SENT_ON_THE_RADIO_PATH: &[&str] = &[
+    "CHANNEL RELEASE",
+    "HANDOVER COMMAND",
+    "PHYSICAL INFORMATION",
+];
+
 /// Whether controllers send a message on a link of which a part may be.
 fn is_sent(link: LinkName, part: &str, may_be_cut: bool) -> bool {
     let names = match link {
         LinkName::Abis => SENT_ON_ABIS,
         LinkName::A => SENT_ON_A,
-        // these stand in messages of Abis, which are looked at
-        LinkName::Rr => return true,
+        LinkName::Rr => SENT_ON_THE_RADIO_PATH,
     };
     let (name, _) = name_and_fields(part);
     names.iter().any(|sent| *sent == name || (may_be_cut && sent.starts_with(part)))
+}
+
+/// What is wrong with a message inside another that goes this way.
+fn inside_fault<'a>(way: Way, words: &'a str, may_be_cut: bool) -> Option<Never<'a>> {
+    match part_fault(RR_FORMS, words, may_be_cut) {
+        Some(fault) => Some(Never::Message(fault)),
+        None if way == Way::Out && !is_sent(LinkName::Rr, words, may_be_cut) => {
+            Some(Never::Unsent(name_and_fields(words).0))
+        }
+        None => None,
+    }
+}
+
+/// What is wrong with a part behind the first: a blank stands before the message inside, or what is said.
+fn inner_fault<'a>(way: Way, part: &'a str, may_be_cut: bool) -> Option<Never<'a>> {
+    match part.strip_prefix(" ") {
+        Some(words) if is_said(words, may_be_cut) => None,
+        Some(words) => inside_fault(way, words, may_be_cut),
+        None if may_be_cut && part.is_empty() => None,
+        None => Some(Never::Glued),
+    }
 }
 
 /// What is wrong with the first part, which may be cut where nothing stands behind it.
@@ -233,7 +250,7 @@ fn outer_fault<'a, A: Allocator + Copy>(
     match fault {
         Some(fault) if !is_rowless => Ok(Some(Never::Message(fault))),
         Some(_) | None if way == Way::Out && !is_sent(link, part, may_be_cut) => {
-            Ok(Some(Never::Comes(name_and_fields(part).0)))
+            Ok(Some(Never::Unsent(name_and_fields(part).0)))
         }
         Some(_) | None => Ok(None),
     }
@@ -250,10 +267,10 @@ fn is_whole(link: LinkName, part: &str) -> bool {
 }
 
 /// What is wrong with the parts behind the first.
-fn inners_fault<'a>(parts: &'a str, is_whole: bool) -> Option<Never<'a>> {
+fn inners_fault<'a>(way: Way, parts: &'a str, is_whole: bool) -> Option<Never<'a>> {
     let last = parts.split(';').count().saturating_sub(1);
     for (place, part) in parts.split(';').enumerate() {
-        if let Some(fault) = inner_fault(part, is_whole && place == last) {
+        if let Some(fault) = inner_fault(way, part, is_whole && place == last) {
             return Some(fault);
         }
     }
@@ -271,7 +288,7 @@ fn words_fault<'a, A: Allocator + Copy>(
         return outer_fault(alloc, way, link, words, true);
     };
     match outer_fault(alloc, way, link, first, false)? {
-        None => Ok(inners_fault(others, is_whole(link, first))),
+        None => Ok(inners_fault(way, others, is_whole(link, first))),
         fault => Ok(fault),
     }
 }
