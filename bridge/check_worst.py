@@ -33,7 +33,7 @@ def done(bridge, line):
 def garbage(start, _room, _program):
     """A controller without a journal that prints what none does: where nothing is to be done by it that is told once, and else the
     controller is killed, and the bridge ends. It doesn't fail itself."""
-    strays = r"\377\376 \000\nhello\nsummary\nin\n"
+    strays = r"\377\376 \000\nhello\nsummary\nin\nout newlink 5 word\nevent newname 0/0/3 1 -> newreply 7\n"
     bridge = start(core=("sh", "-c", f"printf '{strays}'; exec cat"))
     bridge.said.expect(r"the controller prints what isn't known: .. \?$")
     bridge.ask("in open 1 0 0 3")

@@ -23,18 +23,17 @@ DISARMING = ("complete", "undo", "left")
 CAME = re.compile(rb"in abis (\d+) (\d+) ([0-9a-f]+)")
 SENT = re.compile(rb"out abis (\d+) (\d+) ([0-9a-f]+)")
 SENT_ON_A = re.compile(rb"out a (\d+) ([0-9a-f]+)")
-# The lines of a controller by which something is done, in front of their words, and how they are written.
+# The lines of a controller by which something is done, and lines by which nothing is.
 DOING = (b"in ", b"line ", b"event ", b"out ")
-# And by which nothing is.
 KNOWN = (*DOING, b"none free ", b"fault ", b"summary ", b"end ", b"state ", b"decision ", b"sim limit")
-READABLE = re.compile(
-    rb"in (?:abis \d+ \d+ (?:[0-9a-f]{2})+|a \d+ (?:[0-9a-f]{2})+|(?!abis |a )[a-z]+ .*)"
-    rb"|line \d+"
-    rb"|out (?:abis \d+ \d+|a \d+) (?:[0-9a-f]{2})+"
-    rb"|event (?:(?:confirm|refuse|detect|released|owner) CHANNEL|open \d+ CHANNEL|take \d+ \w+ CHANNEL|undo \d+ \w+"
-    rb"|(?:clear|look|reserve|activate|command|complete|require|order|left) \d+(?: \d+)?)"
-    rb" -> (?:done|owned \d+|record(?: [0-9a-z/-]+)+|refused \d+(?: [0-9/]+)*)".replace(b"CHANNEL", rb"\d+/\d+/[0-7](?:/[01])?")
-)
+# How the former are written, in front of their words. A newer controller may have other links, lines of operators and events.
+OCTETS, CHANNEL = "(?:[0-9a-f]{2})+", r"\d+/\d+/[0-7](?:/[01])?"
+MESSAGE = rf"(?:abis \d+ \d+ {OCTETS}|a \d+ {OCTETS}|(?!abis |a )[a-z]+ .*)"
+OF_CHANNELS, OF_CALLS = "confirm|refuse|detect|released|owner", "clear|look|reserve|activate|command|complete|require|order|left"
+EVENT = rf"(?:(?:{OF_CHANNELS}) {CHANNEL}|open \d+ {CHANNEL}|take \d+ \w+ {CHANNEL}|undo \d+ \w+|(?:{OF_CALLS}) \d+(?: \d+)?)"
+REPLY = r"(?:done|owned \d+|record(?: [0-9a-z/-]+)+|refused \d+(?: [0-9/]+)*)"
+OTHER = rf"(?!(?:{OF_CHANNELS}|{OF_CALLS}|open|take|undo) )[a-z]+ [ -~]* -> [ -~]+"
+READABLE = re.compile(rf"in {MESSAGE}|out {MESSAGE}|line \d+|event (?:{EVENT} -> {REPLY}|{OTHER})".encode())
 # The first of the lines that answer what came so far (docs/PROGRAM.md, live): it isn't echoed, nor in a journal.
 FIRST_OF_SUMMARY = re.compile(rb"summary all +\d+ calls opened")
 # What is counted, by the first word of a line.
