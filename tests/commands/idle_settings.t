@@ -36,6 +36,11 @@ isn't met.
   # line 10 comes to nothing
   [1]
 
+A test says the same on standard error.
+
+  $ ./lab run examples/two_cells.toml idle.txt 2>said >/dev/null
+  $ ./lab test examples/two_cells.toml idle.txt 2>&1 >/dev/null | cmp - said
+
 What else isn't met stands behind them.
 
   $ printf 'sim\nrefuse 0 0 5\nopen 1 0 0 3\n#= calls 2\n' >both.txt
@@ -96,6 +101,16 @@ So are those in whose place another comes, an answer that isn't cut, and one tha
   1..1
   not ok 1 - again.txt
   # line 3 comes to nothing
+
+What is let go counts, too: the acknowledgement that was kept back comes twice.
+
+  $ printf 'sim\nhold 0 0 3\nopen 1 0 0 3\ndouble 0 0 3\nlet 0 0 3\n#> ..\n' >twice.txt
+  $ ./lab run examples/two_cells.toml twice.txt 2>&1 | grep -v '^event'
+  in open 1 0 0 3
+  out abis 0 0 0821010b0300060400010801
+  in abis 0 0 0822010b080000
+  in abis 0 0 0822010b080000
+  end channels=1 calls=1 references=0 timers=0
 
 A line that names a call is about the channel that the call has then. What is kept of a mobile that comes is about a
 HANDOVER COMMAND to the channel, behind the line.

@@ -127,6 +127,16 @@ awaited. A test of it isn't met.
   standard input:1: nothing comes of it: there is no call 1
   standard input:2: nothing comes of it: there is no call 1
 
+A release that is awaited is that of the call which had the channel last.
+
+  $ printf 'open 1 0 0 3\nanswer 1 ack\nclear 1\nanswer 1 released\nopen 2 0 0 3\nclear 2\nanswer 1 released\nanswer 2 released\n' >last.txt
+  $ ./lab run examples/two_cells.toml last.txt 2>errors | tail -n 3
+  in abis 0 0 0833010b
+  event released 0/0/3 -> done
+  end channels=0 calls=0 references=0 timers=0
+  $ cat errors
+  last.txt:7: nothing comes of it: the release of no channel of call 1 is awaited
+
 Of each input it is known which line gave it.
 
   $ printf 'sim\n\nopen 1 0 0 3\nreport 1 full=30 n=1:40 times=2\nclear 1\n' >lines.txt

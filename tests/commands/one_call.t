@@ -75,6 +75,19 @@ Where no line is of the call, that is told; of two controllers where none of eit
   two.txt:5: 2: is for a second controller, and there is none (--peer SITE)
   [2]
 
+Of two controllers the lines of either's call of that number are shown.
+
+  $ printf 'open 1 0 0 3\n2: open 1 0 0 1\nopen 2 0 0 2\n' >either.txt
+  $ ./lab run examples/two_cells.toml either.txt --peer examples/one_cell.toml --call 1
+  1: in open 1 0 0 3
+  1: event open 1 0/0/3 -> done
+  1: out abis 0 0 0821010b0300060400010801
+  2: in open 1 0 0 1
+  2: event open 1 0/0/1 -> done
+  2: out abis 0 0 082101090300060400010801
+  1: end channels=2 calls=2 references=0 timers=0
+  2: end channels=1 calls=1 references=0 timers=0
+
 On a chart inputs keep their numbers; counts and captures have all.
 
   $ ./lab run examples/two_cells.toml two_calls.txt --call 2 --chart run.svg --pcap run.pcap --summary >printed

@@ -79,6 +79,15 @@ had the one channel of cell 1. Call 3 wouldn't have found one without it either,
   choices 14,16 same
   choices - same
 
+The status is 1 where any of them differs: here the first one, and not the last.
+
+  $ head -n 5 held.trace >again.trace
+  $ sed -n '3p;5p' held.trace >>again.trace
+  $ ./lab rewind examples/two_cells.toml again.trace --all
+  line 3 call 1 internal taken others 1-2,4,6-7 settled yes held 4 choices - differs: line 4: refused 6 1/1/3; without: done
+  line 6 call 1 internal taken others 1-5 settled yes held - choices - same
+  [1]
+
 Of two controllers each side is taken by itself, over its own site.
 
   $ printf 'sim\n2: hold 0 0 1\nopen 1 0 0 3\nhandover 1 64\n2: undo 40000\n' >two.txt
@@ -91,6 +100,19 @@ Of two controllers each side is taken by itself, over its own site.
   [2]
   $ cat errors
   two.trace:1: a line of the trace of two controllers, and rewind without --peer takes that of one
+
+Where the second one's differs, the status says so, too.
+
+  $ cat >second.trace <<'END'
+  > 1: event open 1 0/0/3 -> done
+  > 2: event take 40000 incoming 0/0/1 -> done
+  > 2: event reserve 40000 0 -> done
+  > 2: event activate 40000 -> done
+  > 2: event undo 40000 asked -> record - - incoming sent 0/0/1 0
+  > END
+  $ ./lab rewind examples/two_cells.toml second.trace --all --peer examples/one_cell.toml
+  2: line 2 call 40000 incoming sent others - settled no held - choices - differs: state channel 0/0/1 off; without: no state channel 0/0/1
+  [1]
 
 A line without its mark is refused, and so is a first one behind a byte order mark; one that is of no controller is passed over.
 

@@ -141,6 +141,13 @@ A mobile has returned where it says HANDOVER FAILURE, and not by what else it sa
   summary all            1 in DATA INDICATION: HANDOVER FAILURE
   summary all            1 in DATA INDICATION: HANDOVER COMPLETE
 
+The centre hangs up a call that is on the move: the attempt is undone, since its call is cleared.
+
+  $ printf 'sim\nopen 1 0 0 3\nhold 1 1 3\nhandover 1 1\nhangup 1\n' >hung_up.txt
+  $ ./lab run examples/two_cells.toml hung_up.txt --summary | grep '^summary all.*\(cleared\|undone\)' | grep -v ' 0 '
+  summary all            1 calls cleared
+  summary all            1 undone: call cleared
+
 T7 and T8 are timers, too, and what another timer ends isn't counted.
 
   $ printf 'open 1 0 0 3\nabis 0 0 0822010b081234\nhandover 1 64\nexpire 1 T8\nexpire 1 T7\n' >timers.txt
@@ -174,6 +181,17 @@ An attempt counts where its call is served; one that comes, where it goes to. Of
   2: summary cell 0         1 in DATA INDICATION: HANDOVER COMPLETE
   $ grep summary printed >counted
   $ ./lab summary examples/handover_between.trace | cmp - counted
+
+As JSON each of two controllers has its own numbers, too.
+
+  $ ./lab summary examples/handover_between.trace --json >between.json
+  $ python3 - <<'END'
+  > import json
+  > for it in json.load(open("between.json"))["controllers"]:
+  >     print(it["all"]["calls"], it["all"]["attempts"], it["all"]["completed"], [cell["cell"] for cell in it["cells"]])
+  > END
+  {'opened': 1, 'cleared': 0} {'internal': 0, 'incoming': 0, 'outgoing': 1} 1 [0]
+  {'opened': 0, 'cleared': 0} {'internal': 0, 'incoming': 1, 'outgoing': 0} 1 [0]
 
 As JSON it is one object in one line, the same by keys.
 
@@ -241,6 +259,30 @@ Events without their input tell no cause, and none without a record its cell. Li
   summary cell 0         1 calls cleared
   summary cell 0         1 undone: cause not told
   summary cell 7         1 turned away (none free)
+
+By its timer an undo tells its cause without an input; else by the input that is one's end.
+
+  $ cat >expired.trace <<'END'
+  > event undo 1 t8 -> record 0/0/3 on outgoing ordered - -
+  > in expire 2 T7
+  > event undo 2 asked -> record 0/0/2 on outgoing required - -
+  > END
+  $ ./lab summary expired.trace | grep -v ' 0 [a-z]'
+  summary all            2 undone: timer
+  summary cell 0         2 undone: timer
+
+The cell of a call's end is told by a record of the same input alone.
+
+  $ cat >cleared.trace <<'END'
+  > in clear 1
+  > event look 1 -> record 1/1/3 on
+  > event clear 1 -> done
+  > in clear 2
+  > event clear 2 -> done
+  > END
+  $ ./lab summary cleared.trace | grep -v ' 0 [a-z]'
+  summary all            2 calls cleared
+  summary cell 1         1 calls cleared
 
 A line that begins as one that is counted has to be one.
 
