@@ -92,3 +92,31 @@ other half.
   16:event open 3 1/1/3/1 -> done
   $ ./lab rewind examples/half_rate.toml halves.trace 9 | grep choices
   choices 14 16
+
+Of two controllers each has its own: the attempt of call 9 has the one channel of the second one's cell, that of call 1 cell 1's
+of the first one.
+
+  $ cat >two.txt <<'END'
+  > open 1 0 0 3
+  > abis 0 0 0822010b081234
+  > handover 1 1
+  > 2: a 9 0019100b030108010a01011d330505010017006505050100170066
+  > 2: seize 2 0 full
+  > 2: undo 9
+  > 2: abis 0 0 08330109
+  > seize 2 1 full
+  > undo 1
+  > abis 1 1 0833010b
+  > END
+  $ ./lab run examples/two_cells.toml two.txt --peer examples/one_cell.toml >two.trace
+  $ grep -n 'none free\|event take' two.trace
+  9:1: event take 1 internal 1/1/3 -> done
+  15:2: event take 9 incoming 0/0/1 -> done
+  20:2: none free 0
+  28:1: none free 1
+  $ ./lab run examples/two_cells.toml two.txt --peer examples/one_cell.toml --audit | grep choices
+  1: choices 28
+  2: choices 20
+  $ ./lab rewind examples/two_cells.toml two.trace --all --peer examples/one_cell.toml | sed 's/ others.*held - / .. /'
+  1: line 9 call 1 internal sent .. choices 28 same
+  2: line 15 call 9 incoming sent .. choices 20 same

@@ -623,6 +623,16 @@ A script may name its own site, and its peer's, from its own folder on.
   1..0
   # same 0, held 0, not settled 0, differ 0
 
+Attempts are taken back over the site that the script names, too: here calls at half rate move.
+
+  $ printf '#%% site town.toml\nsim\nseize 1 0 half\nhandover 1 1\n' >town/moves.txt
+  $ ./lab test examples/two_cells.toml town/moves.txt --undo-everywhere
+  ok 1 - town/moves.txt: undo 1 behind input 3: same
+  ok 2 - town/moves.txt: undo 1 behind input 4: same
+  ok 3 - town/moves.txt: undo 1 behind input 5: same
+  1..3
+  # same 3, held 0, not settled 0, differ 0
+
 run and record go by the sites that they are given, and say where a script names another one.
 
   $ ./lab run examples/two_cells.toml town/half.txt 2>&1 >/dev/null

@@ -241,6 +241,12 @@ A controller that is given its lines as they come answers summary by what came s
   line 1
   [2]
 
+It is counted beside the history, which begins anew behind each line here.
+
+  $ printf 'open 1 0 0 3\nclear 1\nsummary\n' | ./lab live examples/two_cells.toml --history 1 | grep '^summary all.*calls'
+  summary all            1 calls opened
+  summary all            1 calls cleared
+
 Events without their input tell no cause, and none without a record its cell. Lines that aren't counted are passed over.
 
   $ cat >events.trace <<'END'
