@@ -93,6 +93,24 @@ other half.
   $ ./lab rewind examples/half_rate.toml halves.trace 9 | grep choices
   choices 14 16
 
+Call 5 has the other half, so there is no whole timeslot either way; but call 2 would have got the half.
+
+  $ cat >half.txt <<'END'
+  > seize 1 0 half
+  > abis 0 0 08220113081234
+  > open 5 1 1 3/1
+  > handover 1 1
+  > seize 2 1 half
+  > undo 1
+  > abis 1 1 08330113
+  > END
+  $ ./lab run examples/half_rate.toml half.txt >half.trace
+  $ grep -n 'none free\|event take' half.trace
+  12:event take 1 internal 1/1/3/0 -> done
+  17:none free 1
+  $ ./lab rewind examples/half_rate.toml half.trace 12 | grep choices
+  choices 17
+
 Of two controllers each has its own: the attempt of call 9 has the one channel of the second one's cell, that of call 1 cell 1's
 of the first one.
 
