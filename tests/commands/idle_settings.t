@@ -36,7 +36,7 @@ isn't met.
   # line 10 comes to nothing
   [1]
 
-A test says the same on standard error.
+test says the same on standard error.
 
   $ ./lab run examples/two_cells.toml idle.txt 2>said >/dev/null
   $ ./lab test examples/two_cells.toml idle.txt 2>&1 >/dev/null | cmp - said

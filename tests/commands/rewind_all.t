@@ -101,7 +101,7 @@ Of two controllers each side is taken by itself, over its own site.
   $ cat errors
   two.trace:1: a line of the trace of two controllers, and rewind without --peer takes that of one
 
-Where the second one's differs, the status says so, too.
+The status is 1 where an attempt of the second controller alone differs.
 
   $ cat >second.trace <<'END'
   > 1: event open 1 0/0/3 -> done

@@ -266,7 +266,7 @@ Events without their input tell no cause, and none without a record its cell. Li
   summary cell 0         1 undone: cause not told
   summary cell 7         1 turned away (none free)
 
-By its timer an undo tells its cause without an input; else by the input that is one's end.
+An undo by a timer tells its cause itself; another one has it from its input, here a timer's, too.
 
   $ cat >expired.trace <<'END'
   > event undo 1 t8 -> record 0/0/3 on outgoing ordered - -
