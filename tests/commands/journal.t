@@ -221,6 +221,13 @@ Counted is what the lines of a file tell, not its head, whose calls were opened 
   $ ./lab summary whole | awk '/all.*calls opened/ { print $3 }'
   2
 
+It may be a link to one.
+
+  $ cp -r k real; ln -s real linked
+  $ ./lab live examples/two_cells.toml --journal linked </dev/null 2>&1 >/dev/null
+  linked/notes.txt: not of the journal, and left alone
+  resumed after line 5: channels=1 calls=1
+
 With a short history files are begun, each with the events that lead to its book, and audit reads each as a trace.
 
   $ ./lab live examples/two_cells.toml --journal q --history 3 <lines | cmp - plain

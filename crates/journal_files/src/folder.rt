@@ -171,7 +171,9 @@ impl<'a, R: Files + AllocGlobal> Folder<'a, R> {
     /// What is in the folder.
     pub fn list(&self) -> io::Result<Listing> {
         let alloc = self.rt.alloc();
-        let mut dir = self.rt.open_dir(self.path)?;
+        // also where the path is that of a link
+        let path = path_of(alloc, self.path, ".")?;
+        let mut dir = self.rt.open_dir(path.as_str())?;
         let names = names_in(alloc, &mut dir)?;
         let mut listing = Listing {
             spans: Vec::new(alloc),
