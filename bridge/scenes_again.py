@@ -30,7 +30,7 @@ def away(show, *runs):
         for run in runs:
             run.let_go()
     for run in runs:
-        show.expect_in(run.said, "is started again$", "controller: resumed after line")
+        show.expect_in(run.said, "is started again", "controller: resumed after line")
 
 
 def killed_in_speech(show):

@@ -112,6 +112,39 @@ What is let go counts, too: the acknowledgement that was kept back comes twice.
   in abis 0 0 0822010b080000
   end channels=1 calls=1 references=0 timers=0
 
+A cut that leaves more octets than an answer has changes nothing, and is used up by it. Of two cuts the last counts, and
+to be doubled twice is to be doubled once.
+
+  $ cat >longer.txt <<'END'
+  > sim
+  > cut 0 0 3 1
+  > cut 0 0 3 255
+  > open 1 0 0 3
+  > double 0 0 3
+  > double 0 0 3
+  > clear 1
+  > END
+  $ ./lab run examples/two_cells.toml longer.txt 2>said
+  in open 1 0 0 3
+  event open 1 0/0/3 -> done
+  out abis 0 0 0821010b0300060400010801
+  in abis 0 0 0822010b080000
+  event confirm 0/0/3 -> owned 1
+  event look 1 -> record 0/0/3 on
+  in clear 1
+  event look 1 -> record 0/0/3 on
+  event clear 1 -> done
+  out abis 0 0 082e010b
+  in abis 0 0 0833010b
+  event released 0/0/3 -> done
+  in abis 0 0 0833010b
+  event released 0/0/3 -> refused 8 0/0/3
+  end channels=0 calls=0 references=0 timers=0
+  $ cat said
+  longer.txt:2: said again before it is used: nothing comes of it on 0/0/3
+  longer.txt:3: never used: nothing comes of it on 0/0/3
+  longer.txt:5: said again before it is used: nothing comes of it on 0/0/3
+
 A line that names a call is about the channel that the call has then. What is kept of a mobile that comes is about a
 HANDOVER COMMAND to the channel, behind the line.
 
