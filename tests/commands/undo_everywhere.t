@@ -102,14 +102,14 @@ All scripts of the tests: none differs. Where no release is acknowledged by a sc
 settled.
 
   $ ./lab test tests/two_cells/site.toml $(find tests/two_cells -name '*.txt' | sort) --undo-everywhere | tail -2
-  1..294
-  # same 150, held 0, not settled 144, differ 0
+  1..300
+  # same 152, held 0, not settled 148, differ 0
   $ ./lab test tests/two_controllers/site.toml $(find tests/two_controllers -name '*.txt' | sort) --peer tests/two_controllers/peer.toml --undo-everywhere | tail -2
   1..95
   # same 95, held 0, not settled 0, differ 0
   $ ./lab test tests/two_controllers_both_ways/site.toml $(find tests/two_controllers_both_ways -name '*.txt' | sort) --peer tests/two_controllers_both_ways/peer.toml --undo-everywhere | tail -2
-  1..109
-  # same 109, held 0, not settled 0, differ 0
+  1..127
+  # same 127, held 0, not settled 0, differ 0
   $ ./lab test tests/one_cell/site.toml $(find tests/one_cell -name '*.txt' | sort) --undo-everywhere | tail -2
   1..3
   # same 0, held 0, not settled 3, differ 0
