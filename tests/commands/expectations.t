@@ -246,6 +246,43 @@ So is a message that controllers don't send. (`in` may have any: a line may give
   script.txt:9: never missed: controllers send no "HANDOVER COMPLETE"
   [1]
 
+So is a value that no message is printed with. A text may end within one.
+
+  $ cat >script.txt <<'END'
+  > open 1 0 0 3
+  > #! out abis 0 1 CHANNEL ACTIVATION tn=03
+  > #! out abis 0 1 CHANNEL ACTIVATION reference=256
+  > #! out abis 0 1 CHANNEL ACTIVATION tn=3/2 activation=2
+  > #! out abis 0 1 CHANNEL ACTIVATION mode=0A
+  > #! out abis 0 1 DATA REQUEST tn=3 layer3=06280; HANDOVER COMMAND
+  > #! out abis 0 1 DATA REQUEST; HANDOVER COMMAND atc=2
+  > #! out a 1 HANDOVER PERFORMED cell=23
+  > #! out a 1 HANDOVER REQUIRED cells=23/102;23/103
+  > #! in abis 0 0 MEASUREMENT RESULT; MEASUREMENT REPORT n=40/2
+  > #! in abis 0 0 CHANNEL ACTIVATION ACK frame=
+  > #! out abis 0 1 CHANNEL ACTIVATION tn=3/
+  > #! out abis 0 1 CHANNEL ACTIVATION tn=
+  > #! out abis 0 1 CHANNEL ACTIVATION reference=-
+  > #! out abis 0 1 DATA REQUEST tn=3 link=0 layer3=06280
+  > #! out a 1 HANDOVER PERFORMED cause=12 cell=23
+  > #! out a 1 HANDOVER PERFORMED cell=-/5
+  > #! out a 1 HANDOVER REQUIRED cells=
+  > #! in abis 0 0 MEASUREMENT RESULT; MEASUREMENT REPORT n=40/2/21
+  > #! in a 1 HANDOVER REQUEST classmark=
+  > END
+  $ ./lab test examples/two_cells.toml script.txt 2>&1 >/dev/null
+  script.txt:2: never missed: tn is 0 to 7, with /0 or /1 behind it for half rate, found "03"
+  script.txt:3: never missed: reference is 0 to 255, or -, found "256"
+  script.txt:4: never missed: tn is 0 to 7, with /0 or /1 behind it for half rate, found "3/2"
+  script.txt:5: never missed: a trace has octets in small letters
+  script.txt:6: never missed: layer3 is one octet or more in hexadecimal, found "06280"
+  script.txt:7: never missed: atc is 0 or 1, found "2"
+  script.txt:8: never missed: cell is a cell with its location area, as in 23/102, found "23"
+  script.txt:9: never missed: a blank stands behind ;
+  script.txt:10: never missed: n is a level 0 to 63, a position 0 to 31 and a code 0 to 63, as in 40/2/21, found "40/2"
+  script.txt:11: never missed: frame is 0 to 65535, found ""
+  [1]
+
 What else isn't met stands behind these; a script that can't be read is refused all the same.
 
   $ printf 'open 1 0 0 3\n#! out a 1\n#! out abis\n#! ot a\n' >script.txt
@@ -683,3 +720,17 @@ Records in words, and with what the books hold. An echo with nothing behind it, 
   $ ./lab test examples/two_cells.toml recorded.txt
   1..1
   ok 1 - recorded.txt
+
+A blank that ends a line that is expected can't be seen: it is said.
+
+  $ printf 'open 1 0 0 3\n#> event open 1 0/0/3 -> done \n#> ..\n#= calls 1 \n' >blank.txt
+  $ ./lab test examples/two_cells.toml blank.txt 2>/dev/null
+  1..1
+  not ok 1 - blank.txt
+  # line 2
+  # expected: event open 1 0/0/3 -> done  (a blank ends it)
+  # came: event open 1 0/0/3 -> done
+  # line 4
+  # expected: calls 1  (a blank ends it)
+  # came: calls 1
+  [1]

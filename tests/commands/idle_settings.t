@@ -192,10 +192,48 @@ HANDOVER COMMAND to the channel, behind the line.
   1..1
   ok 1 - came.txt
 
+Each hold keeps back one answer, up to the next `let`: a second one of the same activation is never used, nor is one of an
+activation that is refused.
+
+  $ cat >held.txt <<'END'
+  > sim
+  > hold 0 0 3
+  > hold 0 0 3
+  > open 1 0 0 3
+  > let 0 0 3
+  > hold 1 1 3 complete
+  > hold 1 1 3 complete
+  > handover 1 1
+  > let 1 1 3
+  > hold 0 0 2
+  > refuse 0 0 2
+  > handover 1 0
+  > let 0 0 2
+  > hold 0 0 2
+  > handover 1 0
+  > #> ..
+  > END
+  $ ./lab run examples/two_cells.toml held.txt 2>&1 >/dev/null
+  held.txt:3: never used: nothing comes of it on 0/0/3
+  held.txt:7: never used: nothing comes of it on 1/1/3
+  held.txt:10: never used: nothing comes of it on 0/0/2
+
+One that waits for a later activation is used by that.
+
+  $ printf 'sim\nhold 0 0 3\nrefuse 0 0 3\nopen 1 0 0 3\nclear 1\nopen 1 0 0 3\n' >later.txt
+  $ ./lab run examples/two_cells.toml later.txt 2>&1 >/dev/null
+
+What a mobile does is said again before it is used, also where something else comes between.
+
+  $ printf 'sim\nopen 1 0 0 3\nmobile 1 vanish\nopen 2 0 0 2\nmobile 1 arrive\nhandover 1 1\nmobile 1 return\n' >between.txt
+  $ ./lab run examples/two_cells.toml between.txt 2>&1 >/dev/null
+  between.txt:3: said again before it is used: nothing comes of it on 0/0/3
+  between.txt:7: never used: nothing comes of it on 1/1/3
+
 A channel is looked for at the controller whose mark the line has. A mobile may come there from the other one.
 
   $ printf 'sim\n2: hold 0 0 3\n2: open 1 0 0 1\n#> ..\n' >two.txt
   $ ./lab run examples/two_cells.toml two.txt --peer examples/one_cell.toml 2>&1 >/dev/null
-  two.txt:2: the site has no channel 0/0/3
+  two.txt:2: the second controller's site has no channel 0/0/3
   $ printf 'sim\n2: hold 0 0 1 detection\nopen 1 0 0 3\nhandover 1 64\n#> ..\n' >comes.txt
   $ ./lab run examples/two_cells.toml comes.txt --peer examples/one_cell.toml 2>&1 >/dev/null

@@ -24,11 +24,23 @@ What can't be read is a line that can't be read, before anything runs, and it is
   line 2
   [2]
   $ refused 'abis 0 0 CLEAR COMMAND cause=9'
-  bad.txt:2: HEX is one octet or more, each in two hexadecimal digits, or a message in words, found CLEAR
+  bad.txt:2: HEX is one octet or more, each in two hexadecimal digits, or a message in words, found CLEAR COMMAND
   line 2
   [2]
   $ refused 'a 1 CLEAR  COMMAND cause=9'
-  bad.txt:2: HEX is one octet or more, each in two hexadecimal digits, or a message in words, found CLEAR
+  bad.txt:2: HEX is one octet or more, each in two hexadecimal digits, or a message in words, found CLEAR  COMMAND
+  line 2
+  [2]
+  $ refused 'abis 0 0 CHANNEL ACTIVATON ACK tn=3 frame=0'
+  bad.txt:2: HEX is one octet or more, each in two hexadecimal digits, or a message in words, found CHANNEL ACTIVATON ACK
+  line 2
+  [2]
+  $ refused 'abis 0 0 CHANNEL tn=3'
+  bad.txt:2: HEX is one octet or more, each in two hexadecimal digits, or a message in words, found CHANNEL
+  line 2
+  [2]
+  $ refused 'abis 0 0 TN=3'
+  bad.txt:2: HEX is one octet or more, each in two hexadecimal digits, or a message in words, found TN=3
   line 2
   [2]
   $ refused 'abis 0 0 channel activation ack tn=3 frame=0'

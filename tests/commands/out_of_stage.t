@@ -40,3 +40,15 @@ An operator's line or a timer of which nothing comes: the book's reply says why.
   $ printf "open 1 0 0 3\nabis 0 0 $report\nabis 0 0 0822010b080000\nabis 0 0 $report\n" >report.txt
   $ ./lab run examples/two_cells.toml report.txt --words | grep "^in abis 0 0 $report" | grep -c ignored
   1
+
+Where none is free that says enough, but of a call that isn't there.
+
+  $ printf 'open 1 1 1 3\nopen 2 0 0 3\nabis 0 0 0822010b080000\nhandover 2 1\nhandover 9 1\n' >full.txt
+  $ ./lab run examples/two_cells.toml full.txt --words | sed -n '/^in handover/,$p'
+  in handover 2 1 # call 2
+  event look 2 -> record 0/0/3 on # call 2
+  none free 1 # call 2
+  in handover 9 1 # call 9; ignored: nothing changes
+  event look 9 -> refused 1 # call 9; NoCall: there is no such call
+  none free 1 # call 9
+  end channels=2 calls=2 references=0 timers=0 # this is left

@@ -1,5 +1,5 @@
 //! The lines of a script that come to nothing.
-use crate::used::{is_used, use_of};
+use crate::used::{Use, first_use, use_of};
 use bts_model::{Act, Setting};
 use cell_table::{Site, SiteFault};
 use channel_fsm::ChanId;
@@ -10,7 +10,7 @@ use lab_runs::course::Run;
 use lab_runs::listener::Listener;
 use lab_runs::noting::Noting;
 use lab_runs::run::{LabFault, Sites, play};
-use lab_runs::turn::{Source, Turn};
+use lab_runs::turn::Turn;
 use lab_script::script::{
     Given, Item, ScriptFault, Side, is_blank, is_comment, read_script, without_return,
 };
@@ -22,8 +22,8 @@ use trace_text::trace::Mark;
 /// Why a line of a script comes to nothing.
 #[derive(Clone, Copy, Debug, PartialEq, Eq)]
 pub enum Cause {
-    /// The site lacks the channel that it names.
-    NoChannel(ChanId),
+    /// The site of this controller lacks the channel that it names.
+    NoChannel(Side, ChanId),
     /// Nothing happens behind it on the channel that it names.
     Unused(ChanId),
     /// Another takes its place on the channel that it names, before anything happens there.
@@ -43,13 +43,10 @@ pub struct Idle {
 /// What a line gives, as far as it counts here.
 #[derive(Clone, Copy)]
 enum Kind {
-    /// Inputs, or none that it asked for.
-    Input,
     Setting(Side, Setting),
-    /// It may bring messages of simulators.
-    Other,
     /// A setting of the channel that a call has.
     OfCall(Side),
+    Other,
 }
 
 /// A line that gives something: its number, counted from 1, and what.
@@ -62,10 +59,9 @@ struct Line {
 /// What an item is.
 fn kind_of<A: Allocator>(item: &Item<A>) -> Kind {
     match &item.given {
-        Given::Input(_) | Given::Ask(_) => Kind::Input,
         Given::Set(setting) => Kind::Setting(item.side, *setting),
-        Given::Attach | Given::HangUp(_) => Kind::Other,
         Given::MobileOf { .. } => Kind::OfCall(item.side),
+        Given::Input(_) | Given::Ask(_) | Given::Attach | Given::HangUp(_) => Kind::Other,
     }
 }
 
@@ -115,31 +111,31 @@ fn site_of<A: Allocator + Copy>(controller: &Controller<Noting<A>, A>) -> &Site<
     controller.view().desk().book().site()
 }
 
-/// What came of the lines of a script that give something, one behind another: how many inputs each gave, what each asked of
-/// the mobile of a call, and why nothing came of those that asked in vain.
+/// What came of the lines of a script that give something, one behind another: how many turns there were before each, what each
+/// asked of the mobile of a call, and why nothing came of those that asked in vain.
 #[derive(Drop)]
 struct Hearing<A: Allocator + Copy> {
-    inputs: Vec<usize, A>,
+    begun: Vec<usize, A>,
     settings: Vec<(usize, Setting), A>,
     unmet: Vec<(usize, Unmet), A>,
-    /// How many lines began.
-    begun: usize,
+    /// How many turns there are.
+    turns: usize,
 }
 
 impl<A: Allocator + Copy> Hearing<A> {
     /// Nothing yet.
     fn new(alloc: A) -> Hearing<A> {
         Hearing {
-            inputs: Vec::new(alloc),
+            begun: Vec::new(alloc),
             settings: Vec::new(alloc),
             unmet: Vec::new(alloc),
-            begun: 0,
+            turns: 0,
         }
     }
 
-    /// How many inputs the line of this place, counted from 0, gave.
-    fn inputs_at(&self, place: usize) -> usize {
-        self.inputs.get(place).copied().unwrap_or(0)
+    /// How many turns there were before the line of this place, counted from 0.
+    fn turns_before(&self, place: usize) -> usize {
+        self.begun.get(place).copied().unwrap_or(self.turns)
     }
 
     /// What it asked of the mobile of a call.
@@ -154,7 +150,7 @@ impl<A: Allocator + Copy> Hearing<A> {
 
     /// The place of the line that began last.
     fn place(&self) -> usize {
-        self.begun.saturating_sub(1)
+        self.begun.len().saturating_sub(1)
     }
 }
 
@@ -170,9 +166,8 @@ fn noted_at<T: Copy>(notes: &[(usize, T)], place: usize) -> Option<T> {
 
 impl<A: Allocator + Copy> Listener<A> for Hearing<A> {
     fn hear_item(&mut self) -> Result<(), LabFault> {
-        self.inputs.push(0).map_err(AllocError::from)?;
-        self.begun = self.begun.saturating_add(1);
-        Ok(())
+        let turns = self.turns;
+        Ok(self.begun.push(turns).map_err(AllocError::from)?)
     }
 
     fn hear_unmet(&mut self, unmet: Unmet) -> Result<(), LabFault> {
@@ -189,12 +184,8 @@ impl<A: Allocator + Copy> Listener<A> for Hearing<A> {
         )
     }
 
-    fn hear_turn(&mut self, _mark: Mark, turn: &Turn<A>, _book: &Book<A>) -> Result<(), LabFault> {
-        if turn.source == Source::Script
-            && let Some(inputs) = self.inputs.last_mut()
-        {
-            *inputs = inputs.saturating_add(1);
-        }
+    fn hear_turn(&mut self, _mark: Mark, _turn: &Turn<A>, _book: &Book<A>) -> Result<(), LabFault> {
+        self.turns = self.turns.saturating_add(1);
         Ok(())
     }
 
@@ -235,46 +226,52 @@ fn site_with<A: Allocator + Copy>(
     }
 }
 
-/// The turns from the first on that a line of the script gave.
-fn from_script<A: Allocator>(turns: &[Turn<A>]) -> &[Turn<A>] {
-    let mut rest = turns;
-    while let [turn, behind @ ..] = rest {
-        if turn.source == Source::Script {
-            return rest;
-        }
-        rest = behind;
-    }
-    rest
-}
-
-/// Whether a line that brings messages of simulators comes before the next that gives an input: then it isn't known which
-/// messages came of it.
-fn is_unclear(behind: &[Line]) -> bool {
-    for line in behind {
-        match line.kind {
-            Kind::Input => return false,
-            Kind::Other => return true,
-            Kind::OfCall(_) => {}
-            Kind::Setting(_, setting) => {
-                if setting.act == Act::Release {
-                    return true;
-                }
-            }
-        }
-    }
-    false
-}
-
-/// Whether a setting takes the place of another on its channel. What is kept back adds up.
-fn takes_place(by: Setting, of: Setting) -> bool {
-    let is_same_act = match of.act {
+/// Whether a setting ends what another asks of its channel: it takes its place, or nothing is kept back any more. What is kept back
+/// adds up.
+fn ends(by: Setting, of: Setting) -> bool {
+    let is_end = match of.act {
         Act::Mobile(_) => matches!(by.act, Act::Mobile(_)),
         Act::Cut(_) => matches!(by.act, Act::Cut(_)),
         Act::Double => by.act == Act::Double,
         Act::Refuse => by.act == Act::Refuse,
-        Act::Hold(_) | Act::Release => false,
+        Act::Hold(_) => by.act == Act::Release,
+        Act::Release => false,
     };
-    is_same_act && chan_of(by) == chan_of(of)
+    is_end && chan_of(by) == chan_of(of)
+}
+
+/// A setting of a side, and the place of its line among those that give something.
+#[derive(Clone, Copy)]
+struct Placed {
+    place: usize,
+    side: Side,
+    setting: Setting,
+}
+
+impl Placed {
+    /// Its channel.
+    fn chan(self) -> ChanId {
+        chan_of(self.setting)
+    }
+
+    /// Whether another, of a line behind it, ends what it asks.
+    fn is_ended_by(self, other: Placed) -> bool {
+        other.side == self.side && ends(other.setting, self.setting)
+    }
+
+    /// Whether both keep back the same answers.
+    fn keeps_as(self, other: Placed) -> bool {
+        other.side == self.side
+            && other.chan() == self.chan()
+            && other.setting.act == self.setting.act
+    }
+}
+
+/// A hold, and the place of the turn whose answer it keeps back: each keeps back one.
+#[derive(Clone, Copy)]
+struct Kept {
+    by: Placed,
+    turn: usize,
 }
 
 /// What comes of a script's settings, as far as its lines were looked at.
@@ -282,93 +279,121 @@ fn takes_place(by: Setting, of: Setting) -> bool {
 struct Search<'a, A: Allocator + Copy> {
     alloc: A,
     controllers: &'a Controllers<A>,
-    /// The turns from the next line on that gives an input.
     turns: &'a [Turn<A>],
     heard: &'a Hearing<A>,
+    kept: Vec<Kept, A>,
     idle: Vec<Idle, A>,
 }
 
 impl<A: Allocator + Copy> Search<'_, A> {
-    /// Looks at the setting of the line of this place; these lines stand behind it.
-    fn look_at(
-        &mut self,
-        number: usize,
-        place: usize,
-        side: Side,
-        setting: Setting,
-        behind: &[Line],
-    ) -> Result<(), AllocError> {
-        if let Some(cause) = self.cause_of(place, side, setting, behind)? {
-            self.idle.push(Idle {
-                line: number,
-                cause,
-            })?;
+    /// The setting of the line of this place, where it is one.
+    fn setting_at(&self, place: usize, line: Line) -> Option<Placed> {
+        match line.kind {
+            Kind::Setting(side, setting) => Some(Placed {
+                place,
+                side,
+                setting,
+            }),
+            Kind::OfCall(side) => {
+                let setting = self.heard.setting_at(place)?;
+                Some(Placed {
+                    place,
+                    side,
+                    setting,
+                })
+            }
+            Kind::Other => None,
         }
-        Ok(())
     }
 
-    /// Whether one of the lines that stand behind that of this place has a setting in the place of this one, before anything comes.
-    fn is_said_again(&self, place: usize, side: Side, setting: Setting, behind: &[Line]) -> bool {
-        let mut place = place;
+    /// Whether one of the lines behind that of a setting ends what it asks, before the turn of this place, or ever.
+    fn is_ended(&self, placed: Placed, used: Option<usize>, behind: &[Line]) -> bool {
+        let mut place = placed.place;
         for line in behind {
             place = place.saturating_add(1);
-            let (other_side, other) = match line.kind {
-                Kind::Input | Kind::Other => return false,
-                Kind::Setting(_, setting) if setting.act == Act::Release => return false,
-                Kind::Setting(side, setting) => (side, Some(setting)),
-                Kind::OfCall(side) => (side, self.heard.setting_at(place)),
-            };
-            if other_side == side && other.is_some_and(|other| takes_place(other, setting)) {
+            if used.is_some_and(|turn| turn < self.heard.turns_before(place)) {
+                return false;
+            }
+            if let Some(other) = self.setting_at(place, *line)
+                && placed.is_ended_by(other)
+            {
                 return true;
             }
         }
         false
     }
 
-    /// Why the setting of the line of this place, behind which these lines stand, comes to nothing, where it does.
-    fn cause_of(
-        &self,
-        place: usize,
-        side: Side,
-        setting: Setting,
-        behind: &[Line],
-    ) -> Result<Option<Cause>, AllocError> {
-        let chan = chan_of(setting);
-        let Some(site) = site_with(self.controllers, side, chan) else {
-            return Ok(Some(Cause::NoChannel(chan)));
-        };
-        if self.is_said_again(place, side, setting, behind) {
-            return Ok(Some(Cause::Again(chan)));
-        }
-        let needed = use_of(site, chan, setting.act);
-        if is_unclear(behind) || is_used(self.alloc, self.turns, side, chan, needed)? {
-            Ok(None)
-        } else {
-            Ok(Some(Cause::Unused(chan)))
-        }
-    }
-
-    /// Looks at a line that asked something of the mobile of a call.
-    fn look_at_call(
-        &mut self,
-        line: Line,
-        side: Side,
-        place: usize,
-        behind: &[Line],
-    ) -> Result<(), AllocError> {
-        match self.heard.setting_at(place) {
-            Some(setting) => self.look_at(line.number, place, side, setting, behind),
-            None => self.note_unmet(line.number, place),
-        }
-    }
-
-    /// The inputs that a line gave are passed.
-    fn pass_inputs(&mut self, count: usize) {
-        for _ in 0..count {
-            if let [_, behind @ ..] = self.turns {
-                self.turns = from_script(behind);
+    /// The turns of which the answer is kept back by holds before one.
+    fn kept_before(&self, placed: Placed) -> Result<Vec<usize, A>, AllocError> {
+        let mut found = Vec::new(self.alloc);
+        for kept in &self.kept {
+            if kept.by.keeps_as(placed) {
+                found.push(kept.turn)?;
             }
         }
+        Ok(found)
+    }
+
+    /// The place of the first turn that uses a setting which needs this.
+    fn first_use(&self, placed: Placed, needed: Use) -> Result<Option<usize>, AllocError> {
+        let taken = self.kept_before(placed)?;
+        let before = self.heard.turns_before(placed.place);
+        first_use(
+            self.alloc,
+            self.turns,
+            before,
+            placed.side,
+            placed.chan(),
+            needed,
+            &taken,
+        )
+    }
+
+    /// Notes the turn that uses a setting, where that is a hold.
+    fn note_kept(&mut self, by: Placed, turn: usize) -> Result<(), AllocError> {
+        match by.setting.act {
+            Act::Hold(_) => Ok(self.kept.push(Kept { by, turn })?),
+            Act::Refuse | Act::Mobile(_) | Act::Double | Act::Cut(_) | Act::Release => Ok(()),
+        }
+    }
+
+    /// Why a setting, behind which these lines stand, comes to nothing, where it does.
+    fn cause_of(&mut self, placed: Placed, behind: &[Line]) -> Result<Option<Cause>, AllocError> {
+        let chan = placed.chan();
+        let Some(site) = site_with(self.controllers, placed.side, chan) else {
+            return Ok(Some(Cause::NoChannel(placed.side, chan)));
+        };
+        let Some(needed) = use_of(site, chan, placed.setting.act) else {
+            return Ok(None);
+        };
+        let used = self.first_use(placed, needed)?;
+        let is_ended = self.is_ended(placed, used, behind);
+        match used {
+            Some(turn) if !is_ended => {
+                self.note_kept(placed, turn)?;
+                Ok(None)
+            }
+            Some(_) | None if is_ended && !matches!(placed.setting.act, Act::Hold(_)) => {
+                Ok(Some(Cause::Again(chan)))
+            }
+            Some(_) | None => Ok(Some(Cause::Unused(chan))),
+        }
+    }
+
+    /// Looks at the setting of a line, behind which these lines stand.
+    fn look_at(
+        &mut self,
+        number: usize,
+        placed: Placed,
+        behind: &[Line],
+    ) -> Result<(), AllocError> {
+        if let Some(cause) = self.cause_of(placed, behind)? {
+            self.idle.push(Idle {
+                line: number,
+                cause,
+            })?;
+        }
+        Ok(())
     }
 
     /// Notes a line that asked in vain.
@@ -387,15 +412,9 @@ impl<A: Allocator + Copy> Search<'_, A> {
         let mut rest = lines;
         let mut place = 0_usize;
         while let [line, behind @ ..] = rest {
-            match line.kind {
-                Kind::Setting(side, setting) => {
-                    self.look_at(line.number, place, side, setting, behind)?;
-                }
-                Kind::OfCall(side) => self.look_at_call(*line, side, place, behind)?,
-                Kind::Input | Kind::Other => {
-                    self.pass_inputs(self.heard.inputs_at(place));
-                    self.note_unmet(line.number, place)?;
-                }
+            match self.setting_at(place, *line) {
+                Some(placed) => self.look_at(line.number, placed, behind)?,
+                None => self.note_unmet(line.number, place)?,
             }
             rest = behind;
             place = place.saturating_add(1);
@@ -435,8 +454,9 @@ fn idle_in<A: Allocator + Copy>(
     let mut search = Search {
         alloc,
         controllers: &run.controllers,
-        turns: from_script(&run.turns),
+        turns: &run.turns,
         heard,
+        kept: Vec::new(alloc),
         idle: Vec::new(alloc),
     };
     search.look_at_all(lines)?;
@@ -444,8 +464,8 @@ fn idle_in<A: Allocator + Copy>(
 }
 
 /// The lines of a script that come to nothing over sites, in their order: settings for a channel that the site lacks, those
-/// behind which nothing happens that they are about, and those in whose place another comes before; lines that ask a controller's book in vain. Nothing is said of a script
-/// that can't be read, and one without such lines isn't run.
+/// behind which nothing happens that they are about, and those in whose place another comes before; lines that ask a
+/// controller's book in vain. Nothing is said of a script that can't be read, and one without such lines isn't run.
 pub fn idle_settings<A: Allocator + Copy>(
     alloc: A,
     sites: Sites<A>,

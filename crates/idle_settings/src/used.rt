@@ -184,6 +184,23 @@ fn may_be_answer<A: Allocator + Copy>(
     }
 }
 
+/// Whether an input of a simulator says that a channel isn't activated.
+fn is_refusal<A: Allocator + Copy>(
+    alloc: A,
+    turn: &Turn<A>,
+    chan: ChanId,
+) -> Result<bool, AllocError> {
+    if turn.source != Source::Simulator {
+        return Ok(false);
+    }
+    match content_of(alloc, &TraceLine::Input(&turn.input))? {
+        Content::Abis(place, Some(Rsl::ChannelActivationNack { .. })) => Ok(
+            place.chan == Some(chan),
+        ),
+        Content::Abis(..) | Content::Rowless(..) | Content::A(..) | Content::Nothing => Ok(false),
+    }
+}
+
 /// Whether one of the messages that are sent is what is needed.
 fn has_use<A: Allocator + Copy>(
     alloc: A,
@@ -243,22 +260,62 @@ fn uses<A: Allocator + Copy>(
     }
 }
 
-/// Whether one of these turns, those of a side, uses what is asked of a channel; also where that needs nothing.
-pub(crate) fn is_used<A: Allocator + Copy>(
+/// Whether a station refused the activation that it was sent before these turns, those of a side: it says so before it is sent
+/// anything more about the channel.
+fn is_refused<A: Allocator + Copy>(
+    alloc: A,
+    behind: &[Turn<A>],
+    side: Side,
+    chan: ChanId,
+) -> Result<bool, AllocError> {
+    for turn in behind {
+        if turn.side == side {
+            if is_refusal(alloc, turn, chan)? {
+                return Ok(true);
+            }
+            if sends(alloc, turn, chan, Use::Acknowledged)? {
+                return Ok(false);
+            }
+        }
+    }
+    Ok(false)
+}
+
+/// Whether these turns, of which the first is one of a side, begin with one that uses what is asked of a channel.
+fn begin_with_use<A: Allocator + Copy>(
     alloc: A,
     turns: &[Turn<A>],
     side: Side,
     chan: ChanId,
-    needed: Option<Use>,
+    needed: Use,
 ) -> Result<bool, AllocError> {
-    let Some(needed) = needed else {
-        return Ok(true);
-    };
-    for turn in turns {
-        let is_there = turn.side == side || needed.is_anywhere();
-        if is_there && uses(alloc, turn, chan, needed)? {
-            return Ok(true);
-        }
+    match turns {
+        [turn, behind @ ..] if turn.side == side || needed.is_anywhere() => Ok(
+            uses(alloc, turn, chan, needed)?
+                && !(needed == Use::Acknowledged && is_refused(alloc, behind, side, chan)?),
+        ),
+        [..] => Ok(false),
     }
-    Ok(false)
+}
+
+/// The place of the first of these turns, but for so many before, that uses what is asked of a channel of a side, and isn't taken.
+pub(crate) fn first_use<A: Allocator + Copy>(
+    alloc: A,
+    turns: &[Turn<A>],
+    before: usize,
+    side: Side,
+    chan: ChanId,
+    needed: Use,
+    taken: &[usize],
+) -> Result<Option<usize>, AllocError> {
+    let mut place = before;
+    let (_, mut rest) = turns.split_at(before.min(turns.len()));
+    while let [_, behind @ ..] = rest {
+        if !taken.contains(&place) && begin_with_use(alloc, rest, side, chan, needed)? {
+            return Ok(Some(place));
+        }
+        place = place.saturating_add(1);
+        rest = behind;
+    }
+    Ok(None)
 }

@@ -7,7 +7,7 @@ use cell_table::SiteFault;
 use expectations::{is_slipped, names_no_site};
 use idle_settings::{Cause, Idle, idle_settings};
 use lab_runs::run::{LabFault, read_sites};
-use lab_script::script::without_return;
+use lab_script::script::{Side, without_return};
 use screen_text::Escaped;
 use std::alloc::Global;
 use std::io::{self, Write};
@@ -75,7 +75,15 @@ fn say_idle<E: Write>(path: &str, idle: Idle, errors: &mut E) -> io::Result<()> 
                 "{path}:{line}: said again before it is used: nothing comes of it on {chan}"
             )
         }
-        Cause::NoChannel(chan) => writeln!(errors, "{path}:{line}: the site has no channel {chan}"),
+        Cause::NoChannel(Side::First, chan) => {
+            writeln!(errors, "{path}:{line}: the site has no channel {chan}")
+        }
+        Cause::NoChannel(Side::Peer, chan) => {
+            writeln!(
+                errors,
+                "{path}:{line}: the second controller's site has no channel {chan}"
+            )
+        }
         Cause::Unmet(unmet) => writeln!(errors, "{path}:{line}: nothing comes of it: {unmet}"),
     }
 }

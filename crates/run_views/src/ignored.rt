@@ -48,12 +48,20 @@ fn is_question(event: Event) -> bool {
     }
 }
 
-/// Whether a step changed nothing: it asked, or was refused.
-fn changed_nothing(step: Step) -> bool {
+/// Whether a step changed nothing: it asked, or was refused. That none is free says enough, but of a call that isn't there.
+fn changed_nothing(step: Step, is_of_nobody: bool) -> bool {
     match step {
         Step::Asked(event, reply) => is_question(event) || !reply.is_accepted(),
-        Step::NoneFree(..) => false,
+        Step::NoneFree(..) => is_of_nobody,
     }
+}
+
+/// Whether the book replied that there is no such call.
+fn is_of_nobody(steps: &[Step]) -> bool {
+    steps.iter().any(|step| match step {
+        Step::Asked(Event::Look(_), reply) => !reply.is_accepted(),
+        Step::Asked(..) | Step::NoneFree(..) => false,
+    })
 }
 
 /// Whether the book replied that a channel serves its call and is on.
@@ -78,9 +86,13 @@ fn is_noted<A: Allocator>(steps: &[Step], content: &Content<A>) -> bool {
 pub(crate) fn is_out_of_stage<A: Allocator>(turn: &Turn<A>, content: &Content<A>) -> bool {
     match &turn.answer {
         Answer::Sent(sent) => {
+            let is_of_nobody = is_of_nobody(&turn.steps);
             sent.is_empty()
                 && !turn.steps.is_empty()
-                && turn.steps.iter().all(|step| changed_nothing(*step))
+                && turn
+                    .steps
+                    .iter()
+                    .all(|step| changed_nothing(*step, is_of_nobody))
                 && !is_noted(&turn.steps, content)
         }
         Answer::Undecoded(_) => false,

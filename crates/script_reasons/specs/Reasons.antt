@@ -1,6 +1,7 @@
 -- Why a line can't be read: the first thing that is wrong with it, and the word that is. Ours, of no standard.
 use Rattle.std.specs.Prelude.{ℕ, ◌-◌, ◌==◌, ◌||◌, ◌&&◌, Bool, true, false, not, nat_eq, if◌then◌else◌, List, [], ◌∷◌, codes, Option, Some, None, is_some, option_map, option_and_then, slice_get, bytes_eq}
 use Rattle.std.specs.List.{slice_split, list_any, starts_with}
+use Rattle.std.specs.Char.{is_ascii_uppercase}
 use Rattle.std.specs.Option.{option_or}
 use Rattle.std.specs.Str.Lines.{strip_carriage_return}
 use Rattle.lab_script.specs.Script.{is_comment, is_blank}
@@ -48,16 +49,25 @@ has_a_name text = is_among a_names (name_of text)
 abbrev pub fault_if : Bool → Fault → Option Fault
 fault_if is fault = if is then Some fault else None
 
--- what is wrong with octets behind which something stands
-abbrev pub behind_octets : Form → Slot → List ℕ → Option (List ℕ) → Wrong
-behind_octets form slot word None = (Word slot, word)
-behind_octets form slot word (Some rest) = if is_some (octets_of word) then (Behind form, first_word rest) else (Word slot, word)
+-- a text begins with a capital letter, as the names of messages do
+abbrev pub is_capitalized : List ℕ → Bool
+is_capitalized [] = false
+is_capitalized (first ∷ others) = is_ascii_uppercase first
 
--- What is wrong with a text that is no message: with its words, where it has the name of one; else with its first word, or with
--- what stands behind that.
+-- what stands where a message should: the name, all of it, where it begins as one does; else the first word
+abbrev pub shown_of : List ℕ → List ℕ
+shown_of text = if is_capitalized (name_of text) then name_of text else first_word text
+
+-- what is wrong with a text that isn't octets alone: with what stands behind its octets, where these stand first
+abbrev pub behind_octets : Form → Slot → List ℕ → Option (List ℕ) → Wrong
+behind_octets form slot text None = (Word slot, shown_of text)
+behind_octets form slot text (Some rest) = if is_some (octets_of (first_word text)) then (Behind form, first_word rest) else (Word slot, shown_of text)
+
+-- What is wrong with a text that is no message: with its words, where it has the name of one; else with the name that it has, or
+-- its first word; or with what stands behind octets.
 abbrev pub message_reason : Form → Slot → List ℕ → Option Fault → Wrong
 message_reason form slot text (Some fault) = (fault, text)
-message_reason form slot text None = behind_octets form slot (first_word text) (behind_word text)
+message_reason form slot text None = behind_octets form slot text (behind_word text)
 
 -- what is wrong with the fields of a report
 abbrev pub field_reason : Option of_report.Wrong → Wrong

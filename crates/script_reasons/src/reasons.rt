@@ -48,8 +48,9 @@ pub enum Fault {
 #[derive(Clone, Copy, Debug, PartialEq, Eq)]
 pub struct Reason<'a> {
     pub fault: Fault,
-    /// The first word that is wrong, as it stands in the line. It is empty where two blanks stand beside each other, where
-    /// a blank stands at an end of the line, and where no word is wrong.
+    /// The first word that is wrong, as it stands in the line; where it stands for a message and begins with a capital letter, all
+    /// words up to the first field. It is empty where two blanks stand beside each other, where a blank stands at an end of the
+    /// line, and where no word is wrong.
     pub found: &'a str,
 }
 
@@ -95,23 +96,46 @@ fn has_a_name(text: &str) -> bool
     is_named(A_FORMS, name)
 }
 
-/// What is wrong with a text that is no message of a slot: with its words, where it has the name of one; else with its first
-/// word, or with what stands behind that.
+/// Whether a text begins with a capital letter.
+fn is_capitalized(text: &str) -> bool
+    ensures { result ≡ said.is_capitalized text.now }
+{
+    match text.as_bytes() {
+        [first, ..] => first.is_ascii_uppercase(),
+        [] => false,
+    }
+}
+
+/// What stands where a message should: the name, all of it, where it begins as one does; else the first word.
+fn shown_of(text: &str) -> &str
+    ensures { result.now ≡ said.shown_of text.now }
+{
+    let (name, _) = name_and_fields(text);
+    if is_capitalized(name) {
+        return name;
+    }
+    let (word, _) = cut_word(text);
+    word
+}
+
+/// What is wrong with a text that is no message of a slot: with its words, where it has the name of one; else with the name
+/// that it has, or its first word; or with what stands behind octets.
 fn message_reason(form: Form, slot: Slot, text: &str, words: Option<Fault>) -> Reason<'_>
     ensures { (result.fault, result.found.now) ≡ said.message_reason form slot text.now words }
 {
     if let Some(fault) = words {
         return Reason { fault, found: text };
     }
-    let (found, rest) = cut_word(text);
+    let (first, rest) = cut_word(text);
     match rest {
-        Some(rest) if is_octets(found) => {
+        Some(rest) if is_octets(first) => {
             let (found, _) = cut_word(rest);
             let fault = Fault::Behind(form);
             Reason { fault, found }
         }
         Some(_) | None => {
             let fault = Fault::Word(slot);
+            let found = shown_of(text);
             Reason { fault, found }
         }
     }

@@ -10,6 +10,7 @@ mod lines;
 mod misses;
 mod never;
 mod never_messages;
+mod never_values;
 mod printed;
 pub mod recorded;
 pub mod tested;

@@ -102,7 +102,7 @@ const LIMIT: &str = "sim limit";
 const REPLIES: &[&str] = &["done", "owned N", "record ..", "refused N .."];
 
 /// Whether a text has decimal digits alone, and no zero in front of another. There may be none where it is cut.
-fn is_number(text: &str, is_cut: bool) -> bool {
+pub(crate) fn is_number(text: &str, is_cut: bool) -> bool {
     text.bytes().all(|byte| byte.is_ascii_digit())
         && (is_cut || !text.is_empty())
         && (text.len() < 2 || !text.starts_with("0"))

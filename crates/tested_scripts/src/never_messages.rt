@@ -1,8 +1,9 @@
 //! Messages in words that no line of a trace can have.
 use crate::never::Never;
+use crate::never_values::value_fault;
 use encoded_messages::{
-    A_FORMS, ABIS_FORMS, Allowed, FieldFault, MessageFault, MessageForm, RR_FORMS, name_and_fields,
-    value,
+    A_FORMS, ABIS_FORMS, Allowed, FieldFault, FieldForm, MessageFault, MessageForm, RR_FORMS,
+    name_and_fields, value,
 };
 use explanations::{LinkName, cause_name};
 use ho_procedure::exchange::Inbound;
@@ -11,12 +12,14 @@ use octet_elements::Octets;
 use std::alloc::{AllocError, Allocator};
 use trace_text::trace::TraceLine;
 
-/// Whether a word is a field of a message of this form.
-fn is_field(form: MessageForm<'static>, word: &str) -> bool {
-    match word.split_once('=') {
-        Some((key, _)) => form.fields.iter().any(|field| field.0 == key),
-        None => false,
+/// What is wrong with a word that is to be a field of a message of this form.
+fn word_fault<'a>(form: MessageForm<'static>, word: &'a str) -> Option<Never<'a>> {
+    if let Some((key, value)) = word.split_once('=')
+        && let Some(field) = form.fields.iter().find(|field| field.0 == key)
+    {
+        return value_fault(*field, value, false);
     }
+    Some(Never::Message(MessageFault::Field(FieldFault::Unknown(word))))
 }
 
 /// The field of a message of this form that a text has twice, though it stands in a message once.
@@ -31,28 +34,28 @@ fn twice_in(form: MessageForm<'static>, fields: &str) -> Option<FieldFault<'stat
     None
 }
 
-/// The key of the field in a place of a message of this form. Behind the last there are further neighbours of a report.
-fn key_at(form: MessageForm<'static>, place: usize) -> Option<&'static str> {
+/// The field in a place of a message of this form. Behind the last there are further neighbours of a report.
+fn field_at(form: MessageForm<'static>, place: usize) -> Option<FieldForm<'static>> {
     match (form.fields.get(place), form.fields.last()) {
-        (Some(field), _) => Some(field.0),
-        (None, Some(last)) if last.1 == Allowed::Neighbour => Some(last.0),
+        (Some(field), _) => Some(*field),
+        (None, Some(last)) if last.1 == Allowed::Neighbour => Some(*last),
         (None, _) => None,
     }
 }
 
-/// Whether a word is the field with this key, or begins it, where it is the last of its text.
-fn begins_field(word: &str, key: &str, is_last: bool) -> bool {
+/// Whether a word is this field, or begins it, where it is the last of its text.
+fn begins_field(word: &str, field: FieldForm<'static>, is_last: bool) -> bool {
     match word.split_once('=') {
-        Some((found, _)) => found == key,
-        None => is_last && key.starts_with(word),
+        Some((key, value)) => key == field.0 && value_fault(field, value, is_last).is_none(),
+        None => is_last && field.0.starts_with(word),
     }
 }
 
 /// Whether the fields of a message of this form, as it is printed, can begin with a text.
 fn begin_fields(form: MessageForm<'static>, fields: &str) -> bool {
     let last = fields.split(' ').count().saturating_sub(1);
-    fields.split(' ').enumerate().all(|(place, word)| key_at(form, place).is_some_and(
-        |key| begins_field(word, key, place == last),
+    fields.split(' ').enumerate().all(|(place, word)| field_at(form, place).is_some_and(
+        |field| begins_field(word, field, place == last),
     ))
 }
 
@@ -72,13 +75,13 @@ fn form_named(forms: &[MessageForm<'static>], name: &str) -> Option<MessageForm<
 }
 
 /// What is wrong with the fields of a message of this form.
-fn fields_fault<'a>(form: MessageForm<'static>, fields: &'a str) -> Option<FieldFault<'a>> {
+fn fields_fault<'a>(form: MessageForm<'static>, fields: &'a str) -> Option<Never<'a>> {
     if fields.is_empty() {
         return None;
     }
-    match fields.split(' ').find(|word| !is_field(form, *word)) {
-        Some(word) => Some(FieldFault::Unknown(word)),
-        None => twice_in(form, fields),
+    match fields.split(' ').find_map(|word| word_fault(form, word)) {
+        Some(fault) => Some(fault),
+        None => twice_in(form, fields).map(|fault| Never::Message(MessageFault::Field(fault))),
     }
 }
 
@@ -87,13 +90,13 @@ fn part_fault<'a>(
     forms: &[MessageForm<'static>],
     part: &'a str,
     may_be_cut: bool,
-) -> Option<MessageFault<'a>> {
+) -> Option<Never<'a>> {
     let (name, fields) = name_and_fields(part);
     match form_named(forms, name) {
         Some(form) if may_be_cut && begin_fields(form, fields) => None,
-        Some(form) => fields_fault(form, fields).map(|fault| MessageFault::Field(fault)),
+        Some(form) => fields_fault(form, fields),
         None if may_be_cut && forms.iter().any(|form| can_begin(*form, part)) => None,
-        None => Some(MessageFault::Name(name)),
+        None => Some(Never::Message(MessageFault::Name(name))),
     }
 }
 
@@ -219,7 +222,7 @@ fn is_sent(link: LinkName, part: &str, may_be_cut: bool) -> bool {
 /// What is wrong with a message inside another that goes this way.
 fn inside_fault<'a>(way: Way, words: &'a str, may_be_cut: bool) -> Option<Never<'a>> {
     match part_fault(RR_FORMS, words, may_be_cut) {
-        Some(fault) => Some(Never::Message(fault)),
+        Some(fault) => Some(fault),
         None if way == Way::Out && !is_sent(LinkName::Rr, words, may_be_cut) => {
             Some(Never::Unsent(name_and_fields(words).0))
         }
@@ -248,7 +251,7 @@ fn outer_fault<'a, A: Allocator + Copy>(
     let fault = part_fault(forms_of(link), part, may_be_cut);
     let is_rowless = link == LinkName::Abis && are_rowless(alloc, part, may_be_cut)?;
     match fault {
-        Some(fault) if !is_rowless => Ok(Some(Never::Message(fault))),
+        Some(fault) if !is_rowless => Ok(Some(fault)),
         Some(_) | None if way == Way::Out && !is_sent(link, part, may_be_cut) => {
             Ok(Some(Never::Unsent(name_and_fields(part).0)))
         }

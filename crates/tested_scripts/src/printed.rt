@@ -66,10 +66,19 @@ pub fn print_met<W: Write>(out: &mut W, number: usize, name: &str) -> io::Result
     writeln!(out, "ok {number} - {}", TestName(name))
 }
 
+/// What is said behind a line that is shown: a blank that ends it can't be seen.
+fn end_of(line: &str) -> &'static str {
+    if line.ends_with(" ") {
+        " (a blank ends it)"
+    } else {
+        ""
+    }
+}
+
 /// Prints one side of a difference.
 fn print_side<W: Write>(out: &mut W, side: &str, line: Option<&str>) -> io::Result<()> {
     match line {
-        Some(line) => writeln!(out, "# {side}: {}", Escaped(line)),
+        Some(line) => writeln!(out, "# {side}: {}{}", Escaped(line), end_of(line)),
         None => writeln!(out, "# {side} nothing more"),
     }
 }
@@ -82,7 +91,8 @@ fn print_against<W: Write>(
     came: &str,
 ) -> io::Result<()> {
     writeln!(out, "# line {line}")?;
-    writeln!(out, "# {}: {}", expected.0, Escaped(expected.1))?;
+    let (said, text) = expected;
+    writeln!(out, "# {said}: {}{}", Escaped(text), end_of(text))?;
     writeln!(out, "# came: {}", Escaped(came))
 }
 
