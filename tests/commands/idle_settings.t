@@ -223,12 +223,13 @@ One that waits for a later activation is used by that.
   $ printf 'sim\nhold 0 0 3\nrefuse 0 0 3\nopen 1 0 0 3\nclear 1\nopen 1 0 0 3\n' >later.txt
   $ ./lab run examples/two_cells.toml later.txt 2>&1 >/dev/null
 
-What a mobile does is said again before it is used, also where something else comes between.
+A setting is said again before it is used, also where something else comes between; but what a mobile does may be set back.
 
-  $ printf 'sim\nopen 1 0 0 3\nmobile 1 vanish\nopen 2 0 0 2\nmobile 1 arrive\nhandover 1 1\nmobile 1 return\n' >between.txt
+  $ printf 'sim\nrefuse 1 1 3\nopen 1 0 0 3\nmobile 1 vanish\nopen 2 0 0 2\nmobile 1 arrive\nrefuse 1 1 3\n' >between.txt
+  $ printf 'handover 1 1\nhandover 1 1\nmobile 1 return\n' >>between.txt
   $ ./lab run examples/two_cells.toml between.txt 2>&1 >/dev/null
-  between.txt:3: said again before it is used: nothing comes of it on 0/0/3
-  between.txt:7: never used: nothing comes of it on 1/1/3
+  between.txt:2: said again before it is used: nothing comes of it on 1/1/3
+  between.txt:10: never used: nothing comes of it on 1/1/3
 
 A channel is looked for at the controller whose mark the line has. A mobile may come there from the other one.
 

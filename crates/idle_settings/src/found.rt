@@ -254,9 +254,11 @@ impl Placed {
         chan_of(self.setting)
     }
 
-    /// Whether another, of a line behind it, ends what it asks.
-    fn is_ended_by(self, other: Placed) -> bool {
-        other.side == self.side && ends(other.setting, self.setting)
+    /// Whether another, of a line behind it, ends what it asks; between them something came, or nothing. A habit may be set back
+    /// once it had its time.
+    fn is_ended_by(self, other: Placed, is_later: bool) -> bool {
+        let had_its_time = is_later && matches!(self.setting.act, Act::Mobile(_));
+        other.side == self.side && ends(other.setting, self.setting) && !had_its_time
     }
 
     /// Whether both keep back the same answers.
@@ -308,14 +310,16 @@ impl<A: Allocator + Copy> Search<'_, A> {
 
     /// Whether one of the lines behind that of a setting ends what it asks, before the turn of this place, or ever.
     fn is_ended(&self, placed: Placed, used: Option<usize>, behind: &[Line]) -> bool {
+        let begun = self.heard.turns_before(placed.place);
         let mut place = placed.place;
         for line in behind {
             place = place.saturating_add(1);
-            if used.is_some_and(|turn| turn < self.heard.turns_before(place)) {
+            let before = self.heard.turns_before(place);
+            if used.is_some_and(|turn| turn < before) {
                 return false;
             }
             if let Some(other) = self.setting_at(place, *line)
-                && placed.is_ended_by(other)
+                && placed.is_ended_by(other, begun < before)
             {
                 return true;
             }
