@@ -223,6 +223,13 @@ One that waits for a later activation is used by that.
   $ printf 'sim\nhold 0 0 3\nrefuse 0 0 3\nopen 1 0 0 3\nclear 1\nopen 1 0 0 3\n' >later.txt
   $ ./lab run examples/two_cells.toml later.txt 2>&1 >/dev/null
 
+An answer that is cut and comes twice uses both.
+
+  $ printf 'sim\ndouble 0 0 3\ncut 0 0 3 1\nopen 1 0 0 3\n' >both_ways.txt
+  $ ./lab run examples/two_cells.toml both_ways.txt 2>&1 | grep -c '^in abis 0 0 08$'
+  2
+  $ ./lab run examples/two_cells.toml both_ways.txt 2>&1 >/dev/null
+
 A setting is said again before it is used, also where something else comes between; but what a mobile does may be set back.
 
   $ printf 'sim\nrefuse 1 1 3\nopen 1 0 0 3\nmobile 1 vanish\nopen 2 0 0 2\nmobile 1 arrive\nrefuse 1 1 3\n' >between.txt

@@ -154,21 +154,6 @@ fn is_use<A: Allocator + Copy>(
     }
 }
 
-/// Whether an input of a simulator is an answer about a channel.
-fn is_answer<A: Allocator + Copy>(
-    alloc: A,
-    turn: &Turn<A>,
-    chan: ChanId,
-) -> Result<bool, AllocError> {
-    if turn.source != Source::Simulator {
-        return Ok(false);
-    }
-    match content_of(alloc, &TraceLine::Input(&turn.input))? {
-        Content::Abis(place, _) | Content::Rowless(place, _) => Ok(place.chan == Some(chan)),
-        Content::A(..) | Content::Nothing => Ok(false),
-    }
-}
-
 /// Whether an input of a simulator may be an answer about a channel: it doesn't say that it is about another.
 fn may_be_answer<A: Allocator + Copy>(
     alloc: A,
@@ -216,14 +201,15 @@ fn has_use<A: Allocator + Copy>(
     Ok(false)
 }
 
-/// Whether an input of a simulator comes from a channel's TRX, and has so many octets.
-fn has_octets<A: Allocator>(turn: &Turn<A>, chan: ChanId, octets: u8) -> bool {
+/// Whether an input of a simulator comes from a channel's TRX, and has so many octets, where that is asked.
+fn comes_from<A: Allocator>(turn: &Turn<A>, chan: ChanId, octets: Option<u8>) -> bool {
     match &turn.input {
         Inbound::Abis { cell, trx, bytes } => {
+            let count = bytes.as_slice().len();
             turn.source == Source::Simulator
                 && *cell == chan.cell
                 && *trx == chan.trx
-                && bytes.as_slice().len() == usize::from(octets)
+                && octets.is_none_or(|octets| count == usize::from(octets))
         }
         Inbound::A { .. } | Inbound::Expiry { .. } | Inbound::Operator(_) => false,
     }
@@ -253,9 +239,10 @@ fn uses<A: Allocator + Copy>(
         Use::Activation | Use::Acknowledged | Use::Command | Use::Arrival(_) => {
             sends(alloc, turn, chan, needed)
         }
-        Use::Answer => is_answer(alloc, turn, chan),
+        // one that is cut may not say which channel it is about
+        Use::Answer => Ok(comes_from(turn, chan, None) && may_be_answer(alloc, turn, chan)?),
         Use::Cut(octets) => {
-            Ok(has_octets(turn, chan, octets) && may_be_answer(alloc, turn, chan)?)
+            Ok(comes_from(turn, chan, Some(octets)) && may_be_answer(alloc, turn, chan)?)
         }
     }
 }
