@@ -283,6 +283,36 @@ So is a value that no message is printed with. A text may end within one.
   script.txt:11: never missed: frame is 0 to 65535, found ""
   [1]
 
+So is what doesn't stand behind such a message, and what comes of a line of which nothing ever comes.
+
+  $ cat >script.txt <<'END'
+  > sim
+  > open 1 0 0 3
+  > #! in abis 0 0 CHANNEL ACTIVATION ACK; normal event
+  > #! in abis 0 0 HANDOVER DETECTION; HANDOVER COMPLETE
+  > #! in a 1 HANDOVER DETECT; ignored: no row
+  > #! in abis 0 0 CHANNEL REQUIRED; HANDOVER COMPLETE
+  > #! in abis 0 0 CHANNEL REQUIRED; ignored: no row
+  > #! in abis 0 0 CHANNEL ACTIVATION NACK; radio resource not available
+  > #! in abis 0 0 DATA INDICATION; HANDOVER FAILURE; protocol error unspecified
+  > #! out a 1 HANDOVER FAILURE; radio interface message failure; protocol error unspecified
+  > #! out abis 0 1 CHANNEL ACTIVATION 
+  > hold 1 1 3
+  > #! out abis 1 1 CHANNEL ACTIVATION
+  > handover 1 1
+  > #! out abis 1 1 RF CHANNEL RELEASE
+  > mobile 1 return
+  > #! end channels=0
+  > END
+  $ ./lab test examples/two_cells.toml script.txt 2>&1 >/dev/null
+  script.txt:16: never used: nothing comes of it on 0/0/3
+  script.txt:3: never missed: such a message has nothing like it behind it
+  script.txt:4: never missed: such a message has nothing like it behind it
+  script.txt:5: never missed: what is ignored is said by --words alone
+  script.txt:6: never missed: such a message has nothing like it behind it
+  script.txt:13: never missed: nothing ever comes of the line before it
+  [1]
+
 What else isn't met stands behind these; a script that can't be read is refused all the same.
 
   $ printf 'open 1 0 0 3\n#! out a 1\n#! out abis\n#! ot a\n' >script.txt

@@ -223,6 +223,13 @@ One that waits for a later activation is used by that.
   $ printf 'sim\nhold 0 0 3\nrefuse 0 0 3\nopen 1 0 0 3\nclear 1\nopen 1 0 0 3\n' >later.txt
   $ ./lab run examples/two_cells.toml later.txt 2>&1 >/dev/null
 
+A cut is used up by the next answer, also by one that isn't longer: nothing comes of it then.
+
+  $ printf 'sim\ncut 0 0 3 200\nopen 1 0 0 3\ncut 0 0 3 7\nclear 1\nopen 1 0 0 3\ncut 0 0 3 1\nclear 1\n' >shorter.txt
+  $ ./lab run examples/two_cells.toml shorter.txt 2>&1 >/dev/null
+  shorter.txt:2: never used: nothing comes of it on 0/0/3
+  shorter.txt:4: never used: nothing comes of it on 0/0/3
+
 An answer that is cut and comes twice uses both.
 
   $ printf 'sim\ndouble 0 0 3\ncut 0 0 3 1\nopen 1 0 0 3\n' >both_ways.txt

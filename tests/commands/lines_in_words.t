@@ -35,6 +35,8 @@ What can't be read is a line that can't be read, before anything runs, and it is
   bad.txt:2: HEX is one octet or more, each in two hexadecimal digits, or a message in words, found CHANNEL ACTIVATON ACK
   line 2
   [2]
+  $ refused 'abis 0 0 CHANNEL ACTIVATION ACK  tn=3 frame=0' | head -n 1 | sed 's/.*, found/found/'
+  found CHANNEL ACTIVATION ACK  (a blank ends it)
   $ refused 'abis 0 0 CHANNEL tn=3'
   bad.txt:2: HEX is one octet or more, each in two hexadecimal digits, or a message in words, found CHANNEL
   line 2

@@ -1,5 +1,5 @@
 //! The lines of a script that come to nothing.
-use crate::used::{Use, first_use, use_of};
+use crate::used::{Found, Use, find_use, use_of};
 use bts_model::{Act, Setting};
 use cell_table::{Site, SiteFault};
 use channel_fsm::ChanId;
@@ -261,6 +261,21 @@ impl Placed {
         other.side == self.side && ends(other.setting, self.setting) && !had_its_time
     }
 
+    /// Why nothing comes of it, where another ended it before that, or none.
+    fn cause(self, is_ended: bool) -> Cause {
+        match self.setting.act {
+            Act::Refuse | Act::Mobile(_) | Act::Double | Act::Cut(_) | Act::Release if is_ended => {
+                Cause::Again(self.chan())
+            }
+            Act::Refuse
+            | Act::Mobile(_)
+            | Act::Double
+            | Act::Cut(_)
+            | Act::Release
+            | Act::Hold(_) => Cause::Unused(self.chan()),
+        }
+    }
+
     /// Whether both keep back the same answers.
     fn keeps_as(self, other: Placed) -> bool {
         other.side == self.side
@@ -308,14 +323,14 @@ impl<A: Allocator + Copy> Search<'_, A> {
         }
     }
 
-    /// Whether one of the lines behind that of a setting ends what it asks, before the turn of this place, or ever.
-    fn is_ended(&self, placed: Placed, used: Option<usize>, behind: &[Line]) -> bool {
+    /// Whether one of the lines behind that of a setting ends what it asks, before this became of it.
+    fn is_ended(&self, placed: Placed, found: Found, behind: &[Line]) -> bool {
         let begun = self.heard.turns_before(placed.place);
         let mut place = placed.place;
         for line in behind {
             place = place.saturating_add(1);
             let before = self.heard.turns_before(place);
-            if used.is_some_and(|turn| turn < before) {
+            if found.is_before(before) {
                 return false;
             }
             if let Some(other) = self.setting_at(place, *line)
@@ -338,11 +353,11 @@ impl<A: Allocator + Copy> Search<'_, A> {
         Ok(found)
     }
 
-    /// The place of the first turn that uses a setting which needs this.
-    fn first_use(&self, placed: Placed, needed: Use) -> Result<Option<usize>, AllocError> {
+    /// What became of a setting that needs this.
+    fn find_use(&self, placed: Placed, needed: Use) -> Result<Found, AllocError> {
         let taken = self.kept_before(placed)?;
         let before = self.heard.turns_before(placed.place);
-        first_use(
+        find_use(
             self.alloc,
             self.turns,
             before,
@@ -370,17 +385,14 @@ impl<A: Allocator + Copy> Search<'_, A> {
         let Some(needed) = use_of(site, chan, placed.setting.act) else {
             return Ok(None);
         };
-        let used = self.first_use(placed, needed)?;
-        let is_ended = self.is_ended(placed, used, behind);
-        match used {
-            Some(turn) if !is_ended => {
+        let found = self.find_use(placed, needed)?;
+        let is_ended = self.is_ended(placed, found, behind);
+        match found {
+            Found::Used(turn) if !is_ended => {
                 self.note_kept(placed, turn)?;
                 Ok(None)
             }
-            Some(_) | None if is_ended && !matches!(placed.setting.act, Act::Hold(_)) => {
-                Ok(Some(Cause::Again(chan)))
-            }
-            Some(_) | None => Ok(Some(Cause::Unused(chan))),
+            Found::Used(_) | Found::Spent(_) | Found::Never => Ok(Some(placed.cause(is_ended))),
         }
     }
 

@@ -285,8 +285,58 @@ fn begin_with_use<A: Allocator + Copy>(
     }
 }
 
-/// The place of the first of these turns, but for so many before, that uses what is asked of a channel of a side, and isn't taken.
-pub(crate) fn first_use<A: Allocator + Copy>(
+/// Whether a turn is an answer that says it is about a channel, which uses up what waits for one.
+fn is_answer<A: Allocator + Copy>(
+    alloc: A,
+    turn: &Turn<A>,
+    chan: ChanId,
+) -> Result<bool, AllocError> {
+    if !comes_from(turn, chan, None) {
+        return Ok(false);
+    }
+    match content_of(alloc, &TraceLine::Input(&turn.input))? {
+        Content::Abis(place, _) | Content::Rowless(place, _) => Ok(place.chan == Some(chan)),
+        Content::A(..) | Content::Nothing => Ok(false),
+    }
+}
+
+/// Whether a turn of a side, which doesn't use what is asked of a channel, uses it up: of a cut it is another answer.
+fn wastes<A: Allocator + Copy>(
+    alloc: A,
+    turn: &Turn<A>,
+    side: Side,
+    chan: ChanId,
+    needed: Use,
+) -> Result<bool, AllocError> {
+    match needed {
+        Use::Cut(_) => Ok(turn.side == side && is_answer(alloc, turn, chan)?),
+        Use::Activation | Use::Acknowledged | Use::Command | Use::Arrival(_) | Use::Answer => {
+            Ok(false)
+        }
+    }
+}
+
+/// What became of what is asked of a channel: by the turn of this place it was used, or was used up by one that it changes nothing
+/// of.
+#[derive(Clone, Copy, Debug, PartialEq, Eq)]
+pub(crate) enum Found {
+    Used(usize),
+    Spent(usize),
+    Never,
+}
+
+impl Found {
+    /// Whether it came before the turn of a place.
+    pub(crate) fn is_before(self, place: usize) -> bool {
+        match self {
+            Found::Used(turn) | Found::Spent(turn) => turn < place,
+            Found::Never => false,
+        }
+    }
+}
+
+/// What became of what is asked of a channel of a side, by these turns but for so many before. Those that are taken don't use it.
+pub(crate) fn find_use<A: Allocator + Copy>(
     alloc: A,
     turns: &[Turn<A>],
     before: usize,
@@ -294,15 +344,18 @@ pub(crate) fn first_use<A: Allocator + Copy>(
     chan: ChanId,
     needed: Use,
     taken: &[usize],
-) -> Result<Option<usize>, AllocError> {
+) -> Result<Found, AllocError> {
     let mut place = before;
     let (_, mut rest) = turns.split_at(before.min(turns.len()));
-    while let [_, behind @ ..] = rest {
+    while let [turn, behind @ ..] = rest {
         if !taken.contains(&place) && begin_with_use(alloc, rest, side, chan, needed)? {
-            return Ok(Some(place));
+            return Ok(Found::Used(place));
+        }
+        if wastes(alloc, turn, side, chan, needed)? {
+            return Ok(Found::Spent(place));
         }
         place = place.saturating_add(1);
         rest = behind;
     }
-    Ok(None)
+    Ok(Found::Never)
 }

@@ -101,6 +101,15 @@ fn allowed(slot: Slot) -> &'static str {
     }
 }
 
+/// What is said behind a word that is shown: a blank that ends it can't be seen.
+fn end_of(word: &str) -> &'static str {
+    if word.ends_with(" ") {
+        " (a blank ends it)"
+    } else {
+        ""
+    }
+}
+
 /// That a message may stand in words, where a word looks as if it began one: by its capital, or as one without capitals.
 fn in_words(word: &str) -> &'static str {
     let is_hex = word.bytes().all(|byte| byte.is_ascii_hexdigit());
@@ -200,10 +209,11 @@ fn write_reason<W: fmt::Write>(
         Fault::PeerSim => write!(f, "sim is for both controllers, and stands without 2:"),
         Fault::Word(slot) => write!(
             f,
-            "{} is {}{}, found {found}",
+            "{} is {}{}, found {found}{}",
             slot.name(),
             allowed(slot),
-            or_in_words(slot, word)
+            or_in_words(slot, word),
+            end_of(word)
         ),
         Fault::Field => write_field_fault(f, word, found),
         Fault::NoLevel => write!(f, "full is missing, as in full=30"),

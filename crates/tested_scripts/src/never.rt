@@ -5,7 +5,8 @@ use crate::lines::is_script_line;
 use crate::never_messages::why_no_message;
 use encoded_messages::MessageFault;
 use expectations::{refused_in, without_mark};
-use lab_script::script::without_return;
+use lab_script::forms::{Form, cut_word, form_of};
+use lab_script::script::{cut_side, without_return};
 use std::alloc::{AllocError, Allocator, Global};
 use std::fmt;
 
@@ -24,8 +25,14 @@ pub enum Never<'a> {
     Unsent(&'a str),
     /// In words no blank stands behind a semicolon.
     Glued,
+    /// Behind such a message stands nothing like it.
+    Behind,
+    /// That an input is ignored is said by the words of a run, and isn't looked at.
+    Ignored,
     /// No line of the script stands before it of which anything could come.
     First,
+    /// Of the line before it nothing comes.
+    Silent,
 }
 
 impl fmt::Display for Never<'_> {
@@ -37,7 +44,10 @@ impl fmt::Display for Never<'_> {
             Never::Message(fault) => write!(f, "{fault}"),
             Never::Unsent(name) => write!(f, "controllers send no \"{name}\""),
             Never::Glued => write!(f, "a blank stands behind ;"),
+            Never::Behind => write!(f, "such a message has nothing like it behind it"),
+            Never::Ignored => write!(f, "what is ignored is said by --words alone"),
             Never::First => write!(f, "no line stands before it"),
+            Never::Silent => write!(f, "nothing ever comes of the line before it"),
         }
     }
 }
@@ -189,25 +199,64 @@ fn why_never<A: Allocator + Copy>(
     why_no_message(alloc, line)
 }
 
-/// The place of the first line of a script that gives something; that of its first line, where none does.
-fn first_place(script: &str) -> usize {
-    script
-        .split('\n')
-        .position(|line| is_script_line(without_return(line)))
-        .unwrap_or(0)
+/// Whether nothing ever comes of a line of a script: it asks something of what is simulated.
+fn is_silent(line: &str) -> bool {
+    let (_, text) = cut_side(line);
+    let (word, rest) = cut_word(text);
+    match form_of(word, rest) {
+        Some(
+            Form::Sim
+            | Form::Refuse
+            | Form::Hold
+            | Form::HoldAnswer
+            | Form::Mobile
+            | Form::MobileOf
+            | Form::Double
+            | Form::Cut,
+        ) => true,
+        Some(
+            Form::Open
+            | Form::Seize
+            | Form::Handover
+            | Form::Undo
+            | Form::Clear
+            | Form::Expire
+            | Form::Abis
+            | Form::A
+            | Form::Let
+            | Form::HangUp
+            | Form::Report
+            | Form::Answer,
+        )
+        | None => false,
+    }
 }
 
-/// The same of a text that a line of the script has: nothing comes before the first line that gives something.
-fn why_never_at<A: Allocator + Copy>(
-    alloc: A,
-    text: &str,
-    has_peer: bool,
-    is_before: bool,
-) -> Result<Option<Never<'_>>, AllocError> {
-    if is_before {
-        return Ok(Some(Never::First));
+/// The place of the last line of a script that gives something; that of its first line, where none does.
+fn last_place(script: &str) -> usize {
+    let mut last = 0;
+    for (place, line) in script.split('\n').enumerate() {
+        if is_script_line(without_return(line)) {
+            last = place;
+        }
     }
-    why_never(alloc, text, has_peer)
+    last
+}
+
+/// Why no line can be as a text says that stands behind this line of the script, if behind any. The trace's end comes behind the
+/// last.
+fn why_never_behind<'a, A: Allocator + Copy>(
+    alloc: A,
+    text: &'a str,
+    has_peer: bool,
+    before: Option<&str>,
+    is_last: bool,
+) -> Result<Option<Never<'a>>, AllocError> {
+    match before {
+        None => Ok(Some(Never::First)),
+        Some(line) if is_silent(line) && !is_last => Ok(Some(Never::Silent)),
+        Some(_) => why_never(alloc, text, has_peer),
+    }
 }
 
 /// The lines of a script, for one controller or two, that say that no line begins with a text, and none ever can: so a test
@@ -218,10 +267,14 @@ pub fn never_lines<'a, A: Allocator + Copy>(
     has_peer: bool,
 ) -> Result<Vec<NeverLine<'a>, A>, AllocError> {
     let mut found = Vec::new(alloc);
-    let first = first_place(script);
+    let last = last_place(script);
+    let mut before = None;
     for (place, line) in script.split('\n').enumerate() {
-        if let Some(refused) = refused_in(without_return(line))
-            && let Some(why) = why_never_at(alloc, refused, has_peer, place < first)?
+        let line = without_return(line);
+        if is_script_line(line) {
+            before = Some(line);
+        } else if let Some(refused) = refused_in(line)
+            && let Some(why) = why_never_behind(alloc, refused, has_peer, before, last < place)?
         {
             let line = place.saturating_add(1);
             found.push(NeverLine { line, refused, why })?;

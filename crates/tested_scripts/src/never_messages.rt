@@ -158,14 +158,28 @@ fn are_rowless<A: Allocator + Copy>(
 /// What is said of a message on Abis that controllers don't read.
 const NO_ROW: &str = "ignored: no row";
 
-/// Whether a part is the name of a cause, or what is said of a message that controllers don't read.
-fn is_said(part: &str, may_be_cut: bool) -> bool {
-    is_named(part, NO_ROW, may_be_cut)
-        || (0..=u8::MAX).any(|cause| {
-            is_named(part, cause_name(LinkName::Abis, cause), may_be_cut)
-                || is_named(part, cause_name(LinkName::A, cause), may_be_cut)
-                || is_named(part, cause_name(LinkName::Rr, cause), may_be_cut)
-        })
+/// Whether a part is the name of a cause.
+fn is_cause(part: &str, may_be_cut: bool) -> bool {
+    (0..=u8::MAX).any(|cause| {
+        is_named(part, cause_name(LinkName::Abis, cause), may_be_cut)
+            || is_named(part, cause_name(LinkName::A, cause), may_be_cut)
+            || is_named(part, cause_name(LinkName::Rr, cause), may_be_cut)
+    })
+}
+
+/// Whether a message of this form has the field with this key.
+fn has_field(form: MessageForm<'static>, key: &str) -> bool {
+    form.fields.iter().any(|field| field.0 == key)
+}
+
+/// Whether a message of this form may have another inside.
+fn has_inside(form: MessageForm<'static>) -> bool {
+    has_field(form, "layer3")
+}
+
+/// Whether a message of this form, or the one inside, may have a cause.
+fn has_cause(form: MessageForm<'static>) -> bool {
+    has_field(form, "cause") || has_field(form, "rr") || has_inside(form)
 }
 
 /// The messages of a link.
@@ -216,6 +230,8 @@ fn is_sent(link: LinkName, part: &str, may_be_cut: bool) -> bool {
         LinkName::Rr => SENT_ON_THE_RADIO_PATH,
     };
     let (name, _) = name_and_fields(part);
+    // where the text ends behind a name, a blank may stand there
+    let name = name.strip_suffix(" ").unwrap_or(name);
     names.iter().any(|sent| *sent == name || (may_be_cut && sent.starts_with(part)))
 }
 
@@ -230,11 +246,48 @@ fn inside_fault<'a>(way: Way, words: &'a str, may_be_cut: bool) -> Option<Never<
     }
 }
 
+/// What is wrong with words that stand behind those of a message of this form: they are the name of a cause, or a message inside.
+fn behind_form<'a>(
+    way: Way,
+    form: MessageForm<'static>,
+    words: &'a str,
+    may_be_cut: bool,
+) -> Option<Never<'a>> {
+    let is_cause = is_cause(words, may_be_cut);
+    if is_cause && has_cause(form) {
+        return None;
+    }
+    match inside_fault(way, words, may_be_cut) {
+        None if !has_inside(form) => Some(Never::Behind),
+        Some(_) if is_cause => Some(Never::Behind),
+        fault => fault,
+    }
+}
+
+/// The same behind those of a message on Abis that controllers don't read, where there is no form.
+fn behind_fault<'a>(
+    way: Way,
+    form: Option<MessageForm<'static>>,
+    words: &'a str,
+    may_be_cut: bool,
+) -> Option<Never<'a>> {
+    match form {
+        None if is_named(words, NO_ROW, may_be_cut) => None,
+        None => Some(Never::Behind),
+        Some(_) if words.starts_with("ignored: ") => Some(Never::Ignored),
+        Some(form) => behind_form(way, form, words, may_be_cut),
+    }
+}
+
 /// What is wrong with a part behind the first: a blank stands before the message inside, or what is said.
-fn inner_fault<'a>(way: Way, part: &'a str, may_be_cut: bool) -> Option<Never<'a>> {
+fn inner_fault<'a>(
+    way: Way,
+    form: Option<MessageForm<'static>>,
+    part: &'a str,
+    may_be_cut: bool,
+) -> Option<Never<'a>> {
     match part.strip_prefix(" ") {
-        Some(words) if is_said(words, may_be_cut) => None,
-        Some(words) => inside_fault(way, words, may_be_cut),
+        Some(words) => behind_fault(way, form, words, may_be_cut),
         None if may_be_cut && part.is_empty() => None,
         None => Some(Never::Glued),
     }
@@ -259,21 +312,23 @@ fn outer_fault<'a, A: Allocator + Copy>(
     }
 }
 
-/// Whether a part has all fields of its message: then a line can go on with the next.
-fn is_whole(link: LinkName, part: &str) -> bool {
-    let (name, fields) = name_and_fields(part);
-    match form_named(forms_of(link), name) {
+/// Whether a message of this form has all its fields: then a line can go on with the next part.
+fn is_whole(form: Option<MessageForm<'static>>, fields: &str) -> bool {
+    match form {
         Some(form) if fields.is_empty() => form.fields.is_empty(),
         Some(form) => form.fields.len() <= fields.split(' ').count(),
         None => true,
     }
 }
 
-/// What is wrong with the parts behind the first.
-fn inners_fault<'a>(way: Way, parts: &'a str, is_whole: bool) -> Option<Never<'a>> {
+/// What is wrong with the parts behind the first, which is this one.
+fn inners_fault<'a>(way: Way, link: LinkName, first: &str, parts: &'a str) -> Option<Never<'a>> {
+    let (name, fields) = name_and_fields(first);
+    let form = form_named(forms_of(link), name);
+    let is_whole = is_whole(form, fields);
     let last = parts.split(';').count().saturating_sub(1);
     for (place, part) in parts.split(';').enumerate() {
-        if let Some(fault) = inner_fault(way, part, is_whole && place == last) {
+        if let Some(fault) = inner_fault(way, form, part, is_whole && place == last) {
             return Some(fault);
         }
     }
@@ -291,7 +346,7 @@ fn words_fault<'a, A: Allocator + Copy>(
         return outer_fault(alloc, way, link, words, true);
     };
     match outer_fault(alloc, way, link, first, false)? {
-        None => Ok(inners_fault(way, others, is_whole(link, first))),
+        None => Ok(inners_fault(way, link, first, others)),
         fault => Ok(fault),
     }
 }
