@@ -235,15 +235,14 @@ So is a message that controllers don't send. (`in` may have any: a line may give
   > #! out abis 0 1 MEASUREMENT RESULT tn=3
   > #! out abis 0 1 CHANNEL REQUIRED
   > #! in abis 0 0 CHANNEL ACTIVATION NACK
-  > #! out abis 0 0 DATA REQUEST tn=3 link=0 layer3=062c00; HANDOVER COMPLETE
-  > #! out abis 0 0 DATA REQUEST tn=3 link=0 layer3=062b; HANDOVER COM
+  > #! out abis 0 1 CHANNEL ACTIVATION t
+  > #! out a 1 HANDOVER FAILURE cau
   > END
   $ ./lab test examples/two_cells.toml script.txt 2>&1 >/dev/null
   script.txt:2: never missed: controllers send no "CHANNEL ACTIVATION NACK"
   script.txt:3: never missed: controllers send no "CLEAR COMMAND"
   script.txt:6: never missed: controllers send no "MEASUREMENT RESULT"
   script.txt:7: never missed: controllers send no "CHANNEL REQUIRED"
-  script.txt:9: never missed: controllers send no "HANDOVER COMPLETE"
   [1]
 
 So is a value that no message is printed with. A text may end within one.
@@ -283,6 +282,20 @@ So is a value that no message is printed with. A text may end within one.
   script.txt:11: never missed: frame is 0 to 65535, found ""
   [1]
 
+What the switching centre gives a controller for a mobile it sends on, so that may be any message. A script without lines has an
+end.
+
+  $ printf 'open 1 0 0 3\nanswer 1 ack\nhandover 1 64\na 1 HANDOVER COMMAND layer3=062c00\n' >passed_on.txt
+  $ printf '#! out abis 0 0 DATA REQUEST; HANDOVER COMPLETE\n' >>passed_on.txt
+  $ ./lab test examples/two_cells.toml passed_on.txt | tail -n 1
+  # came: out abis 0 0 0301010b02000b0003062c00
+  $ ./lab test examples/two_cells.toml passed_on.txt 2>&1 >/dev/null
+  [1]
+  $ printf '#! end channels=1\n' >no_lines.txt
+  $ ./lab test examples/two_cells.toml no_lines.txt
+  1..1
+  ok 1 - no_lines.txt
+
 So is what doesn't stand behind such a message, and what comes of a line of which nothing ever comes.
 
   $ cat >script.txt <<'END'
@@ -292,6 +305,9 @@ So is what doesn't stand behind such a message, and what comes of a line of whic
   > #! in abis 0 0 HANDOVER DETECTION; HANDOVER COMPLETE
   > #! in a 1 HANDOVER DETECT; ignored: no row
   > #! in abis 0 0 CHANNEL REQUIRED; HANDOVER COMPLETE
+  > #! in abis 0 0 CHANNEL REQUIRED tn=3
+  > #! in abis 0 0 HANDOVER DETECTION;
+  > #! in abis 0 0 CHANNEL ACTIVATION ACK tn=3; tn=3
   > #! in abis 0 0 CHANNEL REQUIRED; ignored: no row
   > #! in abis 0 0 CHANNEL ACTIVATION NACK; radio resource not available
   > #! in abis 0 0 DATA INDICATION; HANDOVER FAILURE; protocol error unspecified
@@ -305,12 +321,15 @@ So is what doesn't stand behind such a message, and what comes of a line of whic
   > #! end channels=0
   > END
   $ ./lab test examples/two_cells.toml script.txt 2>&1 >/dev/null
-  script.txt:16: never used: nothing comes of it on 0/0/3
+  script.txt:19: never used: nothing comes of it on 0/0/3
   script.txt:3: never missed: such a message has nothing like it behind it
   script.txt:4: never missed: such a message has nothing like it behind it
   script.txt:5: never missed: what is ignored is said by --words alone
   script.txt:6: never missed: such a message has nothing like it behind it
-  script.txt:13: never missed: nothing ever comes of the line before it
+  script.txt:7: never missed: "tn=3" is no field of the message
+  script.txt:8: never missed: nothing stands behind ;
+  script.txt:9: never missed: "tn=3" is no message of the link
+  script.txt:16: never missed: nothing ever comes of the line before it
   [1]
 
 What else isn't met stands behind these; a script that can't be read is refused all the same.

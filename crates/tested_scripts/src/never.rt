@@ -25,6 +25,8 @@ pub enum Never<'a> {
     Unsent(&'a str),
     /// In words no blank stands behind a semicolon.
     Glued,
+    /// Behind a semicolon stands nothing.
+    Nothing,
     /// Behind such a message stands nothing like it.
     Behind,
     /// That an input is ignored is said by the words of a run, and isn't looked at.
@@ -44,6 +46,7 @@ impl fmt::Display for Never<'_> {
             Never::Message(fault) => write!(f, "{fault}"),
             Never::Unsent(name) => write!(f, "controllers send no \"{name}\""),
             Never::Glued => write!(f, "a blank stands behind ;"),
+            Never::Nothing => write!(f, "nothing stands behind ;"),
             Never::Behind => write!(f, "such a message has nothing like it behind it"),
             Never::Ignored => write!(f, "what is ignored is said by --words alone"),
             Never::First => write!(f, "no line stands before it"),
@@ -232,19 +235,19 @@ fn is_silent(line: &str) -> bool {
     }
 }
 
-/// The place of the last line of a script that gives something; that of its first line, where none does.
-fn last_place(script: &str) -> usize {
-    let mut last = 0;
+/// The place of the last line of a script that gives something.
+fn last_place(script: &str) -> Option<usize> {
+    let mut last = None;
     for (place, line) in script.split('\n').enumerate() {
         if is_script_line(without_return(line)) {
-            last = place;
+            last = Some(place);
         }
     }
     last
 }
 
 /// Why no line can be as a text says that stands behind this line of the script, if behind any. The trace's end comes behind the
-/// last.
+/// last, or by itself.
 fn why_never_behind<'a, A: Allocator + Copy>(
     alloc: A,
     text: &'a str,
@@ -253,9 +256,9 @@ fn why_never_behind<'a, A: Allocator + Copy>(
     is_last: bool,
 ) -> Result<Option<Never<'a>>, AllocError> {
     match before {
-        None => Ok(Some(Never::First)),
+        None if !is_last => Ok(Some(Never::First)),
         Some(line) if is_silent(line) && !is_last => Ok(Some(Never::Silent)),
-        Some(_) => why_never(alloc, text, has_peer),
+        Some(_) | None => why_never(alloc, text, has_peer),
     }
 }
 
@@ -274,7 +277,8 @@ pub fn never_lines<'a, A: Allocator + Copy>(
         if is_script_line(line) {
             before = Some(line);
         } else if let Some(refused) = refused_in(line)
-            && let Some(why) = why_never_behind(alloc, refused, has_peer, before, last < place)?
+            && let is_last = last.is_none_or(|last| last < place)
+            && let Some(why) = why_never_behind(alloc, refused, has_peer, before, is_last)?
         {
             let line = place.saturating_add(1);
             found.push(NeverLine { line, refused, why })?;

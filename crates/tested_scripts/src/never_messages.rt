@@ -96,6 +96,7 @@ fn part_fault<'a>(
         Some(form) if may_be_cut && begin_fields(form, fields) => None,
         Some(form) => fields_fault(form, fields),
         None if may_be_cut && forms.iter().any(|form| can_begin(*form, part)) => None,
+        None if name.is_empty() => Some(Never::Message(MessageFault::Name(part))),
         None => Some(Never::Message(MessageFault::Name(name))),
     }
 }
@@ -215,40 +216,29 @@ const SENT_ON_A: &[&str] = &[
     "HANDOVER REQUIRED",
 ];
 
-/// The messages that they send to mobiles (TS 44.018 clause 9.1).
-const SENT_ON_THE_RADIO_PATH: &[&str] = &[
-    "CHANNEL RELEASE",
-    "HANDOVER COMMAND",
-    "PHYSICAL INFORMATION",
-];
+/// Whether a part is, or begins, where it may be cut, the message of this name of a link.
+fn is_message(link: LinkName, name: &str, part: &str, may_be_cut: bool) -> bool {
+    let (found, _) = name_and_fields(part);
+    found == name
+        || (may_be_cut
+            && form_named(forms_of(link), name).is_some_and(|form| can_begin(form, part)))
+}
 
-/// Whether controllers send a message on a link of which a part may be.
+/// Whether controllers send a message on a link of which a part may be. To mobiles they send what the switching centre gives them,
+/// too, which may be any.
 fn is_sent(link: LinkName, part: &str, may_be_cut: bool) -> bool {
     let names = match link {
         LinkName::Abis => SENT_ON_ABIS,
         LinkName::A => SENT_ON_A,
-        LinkName::Rr => SENT_ON_THE_RADIO_PATH,
+        LinkName::Rr => return true,
     };
-    let (name, _) = name_and_fields(part);
-    // where the text ends behind a name, a blank may stand there
-    let name = name.strip_suffix(" ").unwrap_or(name);
-    names.iter().any(|sent| *sent == name || (may_be_cut && sent.starts_with(part)))
-}
-
-/// What is wrong with a message inside another that goes this way.
-fn inside_fault<'a>(way: Way, words: &'a str, may_be_cut: bool) -> Option<Never<'a>> {
-    match part_fault(RR_FORMS, words, may_be_cut) {
-        Some(fault) => Some(fault),
-        None if way == Way::Out && !is_sent(LinkName::Rr, words, may_be_cut) => {
-            Some(Never::Unsent(name_and_fields(words).0))
-        }
-        None => None,
-    }
+    names
+        .iter()
+        .any(|sent| is_message(link, *sent, part, may_be_cut))
 }
 
 /// What is wrong with words that stand behind those of a message of this form: they are the name of a cause, or a message inside.
 fn behind_form<'a>(
-    way: Way,
     form: MessageForm<'static>,
     words: &'a str,
     may_be_cut: bool,
@@ -257,7 +247,7 @@ fn behind_form<'a>(
     if is_cause && has_cause(form) {
         return None;
     }
-    match inside_fault(way, words, may_be_cut) {
+    match part_fault(RR_FORMS, words, may_be_cut) {
         None if !has_inside(form) => Some(Never::Behind),
         Some(_) if is_cause => Some(Never::Behind),
         fault => fault,
@@ -274,8 +264,8 @@ fn behind_fault<'a>(
     match form {
         None if is_named(words, NO_ROW, may_be_cut) => None,
         None => Some(Never::Behind),
-        Some(_) if words.starts_with("ignored: ") => Some(Never::Ignored),
-        Some(form) => behind_form(way, form, words, may_be_cut),
+        Some(_) if way == Way::In && words.starts_with("ignored: ") => Some(Never::Ignored),
+        Some(form) => behind_form(form, words, may_be_cut),
     }
 }
 
@@ -289,8 +279,23 @@ fn inner_fault<'a>(
     match part.strip_prefix(" ") {
         Some(words) => behind_fault(way, form, words, may_be_cut),
         None if may_be_cut && part.is_empty() => None,
+        None if part.is_empty() => Some(Never::Nothing),
         None => Some(Never::Glued),
     }
+}
+
+/// What is wrong with a part, whose name may be that of a message on Abis that controllers don't read: that has no fields here.
+fn named_fault<'a, A: Allocator + Copy>(
+    alloc: A,
+    link: LinkName,
+    part: &'a str,
+    fault: Never<'a>,
+) -> Result<Never<'a>, AllocError> {
+    let (name, fields) = name_and_fields(part);
+    if link == LinkName::Abis && !fields.is_empty() && are_rowless(alloc, name, false)? {
+        return Ok(Never::Message(MessageFault::Field(FieldFault::Unknown(fields))));
+    }
+    Ok(fault)
 }
 
 /// What is wrong with the first part, which may be cut where nothing stands behind it.
@@ -304,7 +309,7 @@ fn outer_fault<'a, A: Allocator + Copy>(
     let fault = part_fault(forms_of(link), part, may_be_cut);
     let is_rowless = link == LinkName::Abis && are_rowless(alloc, part, may_be_cut)?;
     match fault {
-        Some(fault) if !is_rowless => Ok(Some(fault)),
+        Some(fault) if !is_rowless => Ok(Some(named_fault(alloc, link, part, fault)?)),
         Some(_) | None if way == Way::Out && !is_sent(link, part, may_be_cut) => {
             Ok(Some(Never::Unsent(name_and_fields(part).0)))
         }
