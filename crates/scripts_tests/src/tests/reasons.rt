@@ -72,7 +72,7 @@ const UNREADABLE: &[(&str, &str)] = &[
     ("sim ", "nothing stands behind sim, found a blank"),
     (
         "abis 0 0 CHANEL ACTIVATION ACK tn=3 frame=0",
-        "HEX is one octet or more, each in two hexadecimal digits, or a message in words, found CHANEL",
+        "HEX is one octet or more, each in two hexadecimal digits, or a message in words, found CHANEL ACTIVATION ACK",
     ),
     (
         "a 1 clear command cause=9",
@@ -90,7 +90,7 @@ const UNREADABLE: &[(&str, &str)] = &[
     // a message of the other link
     (
         "a 1 CHANNEL ACTIVATION ACK tn=3 frame=0",
-        "HEX is one octet or more, each in two hexadecimal digits, or a message in words, found CHANNEL",
+        "HEX is one octet or more, each in two hexadecimal digits, or a message in words, found CHANNEL ACTIVATION ACK",
     ),
     ("report", "CALL is missing in report CALL FIELD"),
     (
