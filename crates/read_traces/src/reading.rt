@@ -83,7 +83,7 @@ pub fn told_entries<A: Allocator + Copy, W: Write>(
 {
     let told = told_in(alloc, trace)?;
     if let Some(foreign) = first_foreign(alloc, book, trace, &told)? {
-        refuse_line(foreign.line, out)?;
+        refuse_line(foreign.entry.line(), out)?;
         return Ok(None);
     }
     Ok(Some(told))

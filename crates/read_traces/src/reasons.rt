@@ -49,10 +49,7 @@ fn say_foreign<E: Write>(
     foreign: Foreign,
     errors: &mut E,
 ) -> io::Result<()> {
-    let Foreign {
-        line: number,
-        reply,
-    } = foreign;
+    let number = foreign.entry.line();
     let line = line_of(trace, number);
     if line.contains(" # ") {
         return writeln!(
@@ -64,7 +61,7 @@ fn say_foreign<E: Write>(
     writeln!(
         errors,
         "{path}:{number}: the book of this site replies \"{}\" here, and the trace says {found}",
-        ReplyText(reply)
+        ReplyText(foreign.reply)
     )
 }
 

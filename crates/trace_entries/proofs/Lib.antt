@@ -2,3 +2,5 @@
 pub mod EntryLemmas
 -- a line without the carriage return that may end it
 pub mod Returns
+-- facts of the replies of a trace
+pub mod ReplyLemmas

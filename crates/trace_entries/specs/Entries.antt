@@ -1,10 +1,13 @@
 -- What a trace says, line by line. A text is the list of its bytes.
-use Rattle.std.specs.Prelude.{◌==◌, ◌||◌, ℕ, Bool, nat_eq, not, if◌then◌else◌, List, [], ◌∷◌, length, drop, map, codes, Option, Some, None, is_some, option_map, option_and_then}
-use Rattle.std.specs.List.{slice_split, starts_with, position_from, filter_map, enumerate_from}
+use Rattle.std.specs.Prelude.{◌≡◌, ◌==◌, ◌||◌, ℕ, Bool, nat_eq, bytes_eq, not, if◌then◌else◌, List, [], ◌∷◌, length, drop, map, zip, codes, Option, Some, None, is_some, option_map, option_and_then}
+use Rattle.std.specs.List.{slice_split, starts_with, position_from, find, filter_map, enumerate_from}
 use Rattle.std.specs.Str.Lines.{strip_carriage_return}
 use Rattle.radio_book.specs.declared.event.Event.{Event}
+use Rattle.radio_book.specs.declared.event.Reply.{Reply}
 use Rattle.event_text.specs.Events.{event_of}
 use Rattle.trace_entries.specs.declared.entries.Entry.{Entry}
+use Rattle.trace_entries.specs.declared.entries.Foreign.{Foreign}
+use Rattle.trace_entries.specs.Replies.{reply_text}
 
 -- what stands behind a front
 abbrev pub behind : List ℕ → List ℕ → Option (List ℕ)
@@ -52,3 +55,24 @@ entries_of trace = filter_map (λ p. entry_at p.0 p.1) (enumerate_from 0 (slice_
 
 abbrev pub events_of : List Entry → List Event
 events_of entries = map (λ (e : Entry). e.event) entries
+
+-- the text of the reply in a line that begins with `event `: what stands behind the first ` -> `
+abbrev pub reply_in : List ℕ → Option (List ℕ)
+reply_in line = option_and_then (λ text. option_map (λ cut. cut.1) (cut_text (codes " -> ") text)) (behind (codes "event ") line)
+
+-- the texts of all replies of a trace, in the order of their lines
+abbrev pub replies_in : List ℕ → List (List ℕ)
+replies_in trace = filter_map reply_in (lines_of trace)
+
+-- the replies of a trace are these
+abbrev pub HasReplies : List ℕ → List Reply → Type 0
+HasReplies trace replies = replies_in trace ≡ map reply_text replies
+
+-- a text is that of a reply
+abbrev pub is_reply : List ℕ → Reply → Bool
+is_reply text reply = bytes_eq text (reply_text reply)
+
+-- The first of all entries, each with the text of its reply and with the book's reply, for which these differ.
+abbrev pub first_other : List Entry → List (List ℕ) → List Reply → Option Foreign
+first_other entries texts replies =
+    option_map (λ p. record { entry = p.0; reply = p.1.1 }) (find (λ p. not (is_reply p.1.0 p.1.1)) (zip entries (zip texts replies)))

@@ -1,8 +1,9 @@
 //! The entries of a trace: its lines that begin with `event `. All other lines are passed over, but those of a trace of
 //! two controllers, which begin with `1: ` or `2: `, can't be read.
-ghost use Rattle.std.specs.Prelude.{◌≡◌, ◌+◌, ◌<◌, ◌^◌, codes, option_map, IfOk};
+ghost use Rattle.std.specs.Prelude.{◌≡◌, ◌↔◌, ◌+◌, ◌<◌, ◌^◌, codes, map, option_map, IfOk, IsTrue};
 ghost use Rattle.std.specs.Str.Lines.{strip_carriage_return};
 ghost use Rattle.trace_entries.specs.Entries as said;
+ghost use Rattle.trace_entries.specs.Replies.{reply_text};
 
 use crate::replies::ReplyText;
 use event_text::reading::read_event;
@@ -21,8 +22,8 @@ pub struct Entry {
 /// An entry that has another reply than the book gives.
 #[derive(Clone, Copy, Debug, PartialEq, Eq)]
 pub struct Foreign {
-    /// The number of its line, counted from 1.
-    pub line: usize,
+    /// The entry.
+    pub entry: Entry,
     /// What the book replies.
     pub reply: Reply,
 }
@@ -103,30 +104,101 @@ pub fn entries_of<A: Allocator + Copy>(alloc: A, trace: &str) -> Result<Vec<Entr
         .collect(alloc)
 }
 
-/// The text of the reply in a line that is an entry.
-pub fn reply_text(line: &str) -> Option<&str> {
+/// The text of the reply in a line that is an entry, which a carriage return may end.
+pub fn reply_text(line: &str) -> Option<&str>
+    ensures text { option_map (λ text. text.now) result ≡ said.reply_in (strip_carriage_return line.now) }
+{
     let (_, reply) = halves(entry_text(without_return(line))?)?;
     Some(reply)
 }
 
-/// The first entry of a trace whose line doesn't have the text of its reply, by the book's replies to all entries.
+/// The texts of all replies of a trace, in the order of their lines.
+fn reply_texts<'a, A: Allocator>(alloc: A, trace: &'a str) -> Result<Vec<&'a str, A>, AllocError>
+    ensures { IfOk result (λ texts. map (λ text. text.now) texts.items ≡ said.replies_in trace.now) }
+{
+    let mut texts = Vec::new(alloc);
+    for line in trace.split('\n') {
+        if let Some(text) = reply_text(line) {
+            texts.push(text)?;
+        }
+    }
+    Ok(texts)
+}
+
+/// Whether a text is that of a reply.
+fn is_reply<A: Allocator>(alloc: A, text: &str, reply: Reply) -> Result<bool, AllocError>
+    ensures word { IfOk result (λ is. is ≡ said.is_reply text.now reply) }
+    ensures text { IfOk result (λ is. IsTrue is ↔ (text.now ≡ reply_text reply)) }
+{
+    let said = ReplyText(reply).to_string(alloc)?;
+    Ok(text == said.as_str())
+}
+
+/// The first of the entries, each with the text of its reply and with the book's reply, for which these differ.
+fn first_among<A: Allocator + Copy>(
+    alloc: A,
+    entries: &[Entry],
+    texts: &[&str],
+    replies: &[Reply],
+) -> Result<Option<Foreign>, AllocError>
+    ensures { IfOk result (λ other. other ≡
+        said.first_other entries.now (map (λ text. text.now) texts.now) replies.now) }
+{
+    let count = entries.len().min(texts.len()).min(replies.len());
+    for place in 0..count {
+        let reply = replies[place];
+        if !is_reply(alloc, texts[place], reply)? {
+            let entry = entries[place];
+            return Ok(Some(Foreign { entry, reply }));
+        }
+    }
+    Ok(None)
+}
+
+/// The first of the entries of a trace whose line doesn't have the text of its reply, by the book's replies to all of them.
 pub fn first_other<A: Allocator + Copy>(
     alloc: A,
     trace: &str,
     entries: &[Entry],
     replies: &[Reply],
-) -> Result<Option<Foreign>, AllocError> {
-    let texts = trace.split('\n').filter_map(|line| reply_text(line));
-    for ((entry, reply), text) in entries.iter().zip(replies.iter()).zip(texts) {
-        let said = ReplyText(*reply).to_string(alloc)?;
-        if said.as_str() != text {
-            return Ok(Some(Foreign {
-                line: entry.line(),
-                reply: *reply,
-            }));
+) -> Result<Option<Foreign>, AllocError>
+    ensures first { IfOk result (λ other. other ≡
+        said.first_other entries.now (said.replies_in trace.now) replies.now) }
+{
+    let texts = reply_texts(alloc, trace)?;
+    first_among(alloc, entries, &texts, replies)
+}
+
+/// Whether texts are those of replies.
+fn are_replies<A: Allocator + Copy>(
+    alloc: A,
+    texts: &[&str],
+    replies: &[Reply],
+) -> Result<bool, AllocError>
+    ensures { IfOk result (λ are. IsTrue are ↔
+        (map (λ text. text.now) texts.now ≡ map reply_text replies.now)) }
+{
+    if texts.len() != replies.len() {
+        return Ok(false);
+    }
+    for place in 0..texts.len() {
+        if !is_reply(alloc, texts[place], replies[place])? {
+            return Ok(false);
         }
     }
-    Ok(None)
+    Ok(true)
+}
+
+/// Whether the replies of a trace are these: in the order of their lines, and no others.
+pub fn has_replies<A: Allocator + Copy>(
+    alloc: A,
+    trace: &str,
+    replies: &[Reply],
+) -> Result<bool, AllocError>
+    ensures replies { IfOk result (λ has. IsTrue has ↔ (said.HasReplies trace.now replies.now)) }
+{
+    let texts = reply_texts(alloc, trace)?;
+    are_replies(alloc, &texts, replies)
 }
 
 impl Entry {
