@@ -2,6 +2,7 @@
 ghost use Rattle.std.specs.Prelude.{◌≡◌, ◌≢◌, ◌++◌, ◌∷◌, [], Ok, Err, None, true, false, IfOk, OnOk};
 ghost use Rattle.cell_table.specs.SiteFile.{IsBlankFile};
 ghost use Rattle.radio_book.specs.State.{empty_book};
+ghost use Rattle.radio_book.specs.Run.{run_replies};
 ghost use Rattle.radio_desk.specs.Audit.{events_in, LeadsAlike};
 ghost use Rattle.trace_entries.specs.Entries as said;
 ghost use Rattle.audits.specs.Histories.{OfTheHistory, LeadsApart};
@@ -155,6 +156,8 @@ fn audit_entries<A: Allocator + Copy, W: Write>(
         OfTheHistory LeadsAlike book (said.events_of (said.entries_of texts.entry.trace.now)) }
     ensures differs { result ≡ Ok Status.Differs →
         OfTheHistory LeadsApart book (said.events_of (said.entries_of texts.entry.trace.now)) }
+    ensures replies { (result ≢ Ok Status.Refused) → OnOk result (said.HasReplies texts.entry.trace.now
+        (run_replies book (said.events_of (said.entries_of texts.entry.trace.now)))) }
 {
     match told_entries(alloc, &book, texts.trace, out)? {
         Some(told) => audit_read(alloc, book, texts, &told, out),
@@ -174,6 +177,8 @@ fn audit_over<A: Allocator + Copy, W: Write>(
         OfTheHistory LeadsAlike (empty_book site) (said.events_of (said.entries_of texts.entry.trace.now)) }
     ensures differs { result ≡ Ok Status.Differs →
         OfTheHistory LeadsApart (empty_book site) (said.events_of (said.entries_of texts.entry.trace.now)) }
+    ensures replies { (result ≢ Ok Status.Refused) → OnOk result (said.HasReplies texts.entry.trace.now
+        (run_replies (empty_book site) (said.events_of (said.entries_of texts.entry.trace.now)))) }
     ensures memory { result ≡ Err LabFault.NoMemory → said.first_unreadable texts.entry.trace.now ≡ None }
 {
     if let Some(number) = first_unreadable(texts.trace) {

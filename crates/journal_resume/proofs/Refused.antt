@@ -1,7 +1,10 @@
 -- The reasons of refusals, behind one record more.
 use Rattle.std.proofs.Common.{◌≡◌, ◌≢◌, ◌⊎◌, inl, inr, ◌+◌, ◌<◌, ℕ, List, [], ◌∷◌, ◌++◌, length, length-append, take, drop, append_assoc, Result, Ok, Err, IsErrAnd, IfErr, refl, sym, subst, ◌∙◌, ap, arith}
 use Rattle.std.proofs.lemmas.List.{take_at, take-append-drop}
-use Rattle.radio_book.specs.State.{State}
+use Rattle.cell_table.specs.Site.{SiteView}
+use Rattle.radio_book.specs.State.{State, empty_book}
+use Rattle.radio_book.specs.Run.{run_book}
+use Rattle.trace_entries.specs.Entries.{entries_of, events_of}
 use Rattle.journal_records.specs.Records.{record_text, BeginsWith}
 use Rattle.journal_records.specs.declared.file.FileFault.{FileFault}
 use Rattle.journal_records.specs.declared.file.FileFault.TheVariants as file
@@ -9,9 +12,9 @@ use Rattle.journal_records.specs.Files.{kind, first_line, Begins}
 use Rattle.journal_resume.specs.declared.resuming.ResumeFault.{ResumeFault}
 use Rattle.journal_resume.specs.declared.resuming.ResumeFault.TheVariants as fault
 use Rattle.journal_resume.specs.Heads.{BeginsWithLine}
-use Rattle.journal_resume.specs.Resume.{Numbered, records_text, AreCounted}
+use Rattle.journal_resume.specs.Resume.{Numbered, records_text, events_in, AreCounted}
 use Rattle.journal_resume.specs.Refusals.{IsRecordReason, IsNextReason, IsReasonBehind, IsHeadReason, IsReason, BehindFirstLine}
-use Rattle.journal_resume.proofs.Steps.{SoFar}
+use Rattle.journal_resume.proofs.Steps.{SoFar, run_on}
 
 -- a text that begins with a line isn't shorter, and has the line in front
 pub line_is_short : (line text : List ℕ) → BeginsWithLine line text → length text < length line → ⊥
@@ -29,16 +32,16 @@ handed_on (Ok t) x P is why = absurd is
 handed_on (Err y) x P is why = subst P (sym is) why
 
 -- why a record isn't taken, where it stands
-pub record_reason : (f : ResumeFault) (next number : ℕ) (left body behind : List ℕ) → BeginsWith left number body behind → IsRecordReason f next number body → IsNextReason f next left
-record_reason (fault.Misplaced n) next number left body behind begins (is, other) = inl (is, (number, body, behind, begins, other))
-record_reason (fault.Unreadable n) next number left body behind begins (is, same, why) = (is, body, behind, subst (λ k. BeginsWith left k body behind) same begins, why)
-record_reason (fault.OtherReply n) next number left body behind begins (is, same, why) = (is, body, behind, subst (λ k. BeginsWith left k body behind) same begins, why)
-record_reason fault.NoMemory next number left body behind begins why = tt
-record_reason (fault.File _) next number left body behind begins why = absurd why
-record_reason fault.NoHead next number left body behind begins why = absurd why
-record_reason fault.Renamed next number left body behind begins why = absurd why
-record_reason fault.AnotherSite next number left body behind begins why = absurd why
-record_reason (fault.Damaged _) next number left body behind begins why = absurd why
+pub record_reason : (f : ResumeFault) (b : State) (next number : ℕ) (left body behind : List ℕ) → BeginsWith left number body behind → IsRecordReason f b next number body → IsNextReason f b next left
+record_reason (fault.Misplaced n) b next number left body behind begins (is, other) = inl (is, (number, body, behind, begins, other))
+record_reason (fault.Unreadable n) b next number left body behind begins (is, same, why) = (is, (body, behind, subst (λ k. BeginsWith left k body behind) same begins, why))
+record_reason (fault.OtherReply n) b next number left body behind begins (is, same, readable, other) = (is, (body, behind, subst (λ k. BeginsWith left k body behind) same begins, (readable, other)))
+record_reason fault.NoMemory b next number left body behind begins why = tt
+record_reason (fault.File _) b next number left body behind begins why = absurd why
+record_reason fault.NoHead b next number left body behind begins why = absurd why
+record_reason fault.Renamed b next number left body behind begins why = absurd why
+record_reason fault.AnotherSite b next number left body behind begins why = absurd why
+record_reason (fault.Damaged _) b next number left body behind begins why = absurd why
 
 pub counted_length : (before : ℕ) (rs : List Numbered) (last : ℕ) → AreCounted before rs last → last ≡ before + length rs
 counted_length before [] last is = omega (arith, is)
@@ -46,53 +49,56 @@ counted_length before (r ∷ rs) last (first, rest) = omega (arith, counted_leng
 
 -- behind the records that were taken
 pub reason_so_far : (f : ResumeFault) (b : State) (before : ℕ) (octets : List ℕ) (b' : State) (last next : ℕ) (left : List ℕ) →
-    SoFar b before octets b' last left → next ≡ last + 1 → IsNextReason f next left → IsReasonBehind f (before + 1) octets
+    SoFar b before octets b' last left → next ≡ last + 1 → IsNextReason f b' next left → IsReasonBehind f b (before + 1) octets
 reason_so_far f b before octets b' last next left so_far is why =
     let place : next ≡ before + 1 + length so_far.records = omega (arith, is, counted_length before so_far.records last so_far.counted) in
-    (so_far.records, left, so_far.text, subst (λ k. IsNextReason f k left) place why)
+    (so_far.records, left, so_far.text, subst (λ k. IsNextReason f (run_book b (events_in so_far.records)) k left) place (subst (λ x. IsNextReason f x next left) so_far.book why))
 
 -- at the head
-pub reason_at_head : (f : ResumeFault) (number : ℕ) (octets : List ℕ) → IsNextReason f number octets → IsReasonBehind f number octets
-reason_at_head f number octets why =
+pub reason_at_head : (f : ResumeFault) (b : State) (number : ℕ) (octets : List ℕ) → IsNextReason f b number octets → IsReasonBehind f b number octets
+reason_at_head f b number octets why =
     let place : number ≡ number + 0 = omega arith in
-    ([], octets, refl, subst (λ k. IsNextReason f k octets) place why)
+    ([], octets, refl, subst (λ k. IsNextReason f b k octets) place why)
 
 -- behind the head
-pub reason_behind_head : (f : ResumeFault) (number : ℕ) (octets head behind : List ℕ) → BeginsWith octets number head behind → IsReasonBehind f (number + 1) behind → IsReasonBehind f number octets
-reason_behind_head f number octets head behind begins (records, left, text, why) =
-    let place : number + 1 + length records ≡ number + length ((number, head) ∷ records) = omega arith in (
+pub reason_behind_head : (f : ResumeFault) (b opening : State) (number : ℕ) (octets head behind : List ℕ) → BeginsWith octets number head behind →
+    opening ≡ run_book b (events_of (entries_of head)) → IsReasonBehind f opening (number + 1) behind → IsReasonBehind f b number octets
+reason_behind_head f b opening number octets head behind begins is (records, left, text, why) =
+    let place : number + 1 + length records ≡ number + length ((number, head) ∷ records) = omega arith in
+    let book : run_book opening (events_in records) ≡ run_book b (events_in ((number, head) ∷ records))
+    = ap (λ x. run_book x (events_in records)) is ∙ sym (run_on b (events_of (entries_of head)) (events_in records)) in (
       (number, head) ∷ records,
       left,
       begins.text ∙ ap (λ t. record_text number head ++ t) text ∙ sym (append_assoc (record_text number head) (records_text records) left),
-      subst (λ k. IsNextReason f k left) place why,
+      subst (λ x. IsNextReason f x (number + length ((number, head) ∷ records)) left) book (subst (λ k. IsNextReason f (run_book opening (events_in records)) k left) place why),
     )
 
 -- of the file
-pub file_reason : (f : ResumeFault) (sum number : ℕ) (octets behind : List ℕ) → octets ≡ first_line ++ behind → IsReasonBehind f number behind → IsReason f sum number octets
-file_reason (fault.Damaged n) sum number octets behind line why = (behind, line, why)
-file_reason (fault.Misplaced n) sum number octets behind line why = (behind, line, why)
-file_reason (fault.Unreadable n) sum number octets behind line why = (behind, line, why)
-file_reason (fault.OtherReply n) sum number octets behind line why = (behind, line, why)
-file_reason fault.NoMemory sum number octets behind line why = tt
-file_reason (fault.File _) sum number octets behind line (records, left, text, why) = absurd why
-file_reason fault.NoHead sum number octets behind line (records, left, text, why) = absurd why
-file_reason fault.Renamed sum number octets behind line (records, left, text, why) = absurd why
-file_reason fault.AnotherSite sum number octets behind line (records, left, text, why) = absurd why
+pub file_reason : (f : ResumeFault) (sum : ℕ) (site : SiteView) (number : ℕ) (octets behind : List ℕ) → octets ≡ first_line ++ behind → IsReasonBehind f (empty_book site) number behind → IsReason f sum site number octets
+file_reason (fault.Damaged n) sum site number octets behind line why = (behind, line, why)
+file_reason (fault.Misplaced n) sum site number octets behind line why = (behind, line, why)
+file_reason (fault.Unreadable n) sum site number octets behind line why = (behind, line, why)
+file_reason (fault.OtherReply n) sum site number octets behind line why = (behind, line, why)
+file_reason fault.NoMemory sum site number octets behind line why = tt
+file_reason (fault.File _) sum site number octets behind line (records, left, text, why) = absurd why
+file_reason fault.NoHead sum site number octets behind line (records, left, text, why) = absurd why
+file_reason fault.Renamed sum site number octets behind line (records, left, text, why) = absurd why
+file_reason fault.AnotherSite sum site number octets behind line (records, left, text, why) = absurd why
 
 -- by the first line
-pub kind_reason : {T : Type 0} (r : Result T FileFault) (f : FileFault) (sum number : ℕ) (octets : List ℕ) → r ≡ Err f →
+pub kind_reason : {T : Type 0} (r : Result T FileFault) (f : FileFault) (sum : ℕ) (site : SiteView) (number : ℕ) (octets : List ℕ) → r ≡ Err f →
     (r ≡ Err file.NotAJournal → Begins kind octets → ⊥) → (r ≡ Err file.UnknownVersion → Begins kind octets × (Begins first_line octets → ⊥)) →
-    IsReason (fault.File f) sum number octets
-kind_reason r file.NotAJournal sum number octets is other version = other is
-kind_reason r file.UnknownVersion sum number octets is other version = version is
+    IsReason (fault.File f) sum site number octets
+kind_reason r file.NotAJournal sum site number octets is other version = other is
+kind_reason r file.UnknownVersion sum site number octets is other version = version is
 
-pub head_reason : (f : ResumeFault) (sum number : ℕ) (octets behind : List ℕ) → octets ≡ first_line ++ behind → IsHeadReason f number behind → IsReason f sum number octets
-head_reason fault.NoHead sum number octets behind line why = (behind, line, why)
-head_reason fault.Renamed sum number octets behind line why = (behind, line, why)
-head_reason fault.NoMemory sum number octets behind line why = absurd why
-head_reason (fault.File _) sum number octets behind line why = absurd why
-head_reason fault.AnotherSite sum number octets behind line why = absurd why
-head_reason (fault.Damaged _) sum number octets behind line why = absurd why
-head_reason (fault.Misplaced _) sum number octets behind line why = absurd why
-head_reason (fault.Unreadable _) sum number octets behind line why = absurd why
-head_reason (fault.OtherReply _) sum number octets behind line why = absurd why
+pub head_reason : (f : ResumeFault) (sum : ℕ) (site : SiteView) (number : ℕ) (octets behind : List ℕ) → octets ≡ first_line ++ behind → IsHeadReason f number behind → IsReason f sum site number octets
+head_reason fault.NoHead sum site number octets behind line why = (behind, line, why)
+head_reason fault.Renamed sum site number octets behind line why = (behind, line, why)
+head_reason fault.NoMemory sum site number octets behind line why = absurd why
+head_reason (fault.File _) sum site number octets behind line why = absurd why
+head_reason fault.AnotherSite sum site number octets behind line why = absurd why
+head_reason (fault.Damaged _) sum site number octets behind line why = absurd why
+head_reason (fault.Misplaced _) sum site number octets behind line why = absurd why
+head_reason (fault.Unreadable _) sum site number octets behind line why = absurd why
+head_reason (fault.OtherReply _) sum site number octets behind line why = absurd why

@@ -13,6 +13,7 @@ use radio_book::event::{Event, Reply};
 use radio_book::run::run;
 use std::alloc::{AllocError, Allocator};
 use thiserror::Error;
+use trace_entries::entries::first_unreadable;
 use trace_entries::replies::ReplyText;
 
 /// Why no head is made for a book.
@@ -95,6 +96,9 @@ fn head_text<A: Allocator + Copy>(
 fn leads_to<A: Allocator + Copy>(alloc: A, trace: &str, book: &Book<A>) -> Result<bool, AllocError>
     ensures { IfOk result (λ leads. IsTrue leads → spec.LeadsTo trace.now book.now) }
 {
+    if first_unreadable(trace).is_some() {
+        return Ok(false);
+    }
     let mut after = Book::new(alloc, book.site().clone()?)?;
     let same_replies = ask_trace(alloc, &mut after, trace)?;
     Ok(same_replies && after == *book)

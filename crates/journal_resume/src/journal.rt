@@ -1,8 +1,8 @@
 //! A journal's file as a whole.
 ghost use Rattle.std.specs.Prelude.{◌≡◌, ◌↔◌, ◌++◌, OnOk, IfOk, IfErr, IsTrue};
 ghost use Rattle.radio_book.specs.State.{empty_book};
-ghost use Rattle.radio_book.specs.Run.{run_book};
-ghost use Rattle.trace_entries.specs.Entries.{entries_of, events_of};
+ghost use Rattle.radio_book.specs.Run.{run_book, run_replies};
+ghost use Rattle.trace_entries.specs.Entries.{entries_of, events_of, HasReplies};
 ghost use Rattle.journal_records.specs.Records.{BeginsWith};
 ghost use Rattle.journal_resume.specs.Heads as heads;
 ghost use Rattle.journal_resume.specs.Resume.{IsJournal};
@@ -85,8 +85,10 @@ fn book_of_head<A: Allocator + Copy>(
 ) -> Result<Book<A>, ResumeFault>
     ensures book { IfOk result (λ book.
         book ≡ run_book (empty_book site.value) (events_of (entries_of head.entry.body.now))) }
+    ensures replies { IfOk result (λ _. HasReplies head.entry.body.now
+        (run_replies (empty_book site.value) (events_of (entries_of head.entry.body.now)))) }
     ensures reason { IfErr result (λ fault.
-        IsRecordReason fault head.entry.number head.entry.number head.entry.body.now) }
+        IsRecordReason fault (empty_book site.value) head.entry.number head.entry.number head.entry.body.now) }
 {
     let mut book = Book::new(alloc, site)?;
     take_record(alloc, &mut book, head.number, head)?;
@@ -94,8 +96,8 @@ fn book_of_head<A: Allocator + Copy>(
 }
 
 /// The book of a journal's file, which has this number in its name: that of the events of its head and of all its records, one
-/// after another, from the empty book of the site on. Each reply is compared with the one that the file has. A record at the end
-/// that was cut is left, with zeros behind it.
+/// after another, from the empty book of the site on. The book's replies are those that the file has. A record at the end that
+/// was cut is left, with zeros behind it.
 ///
 /// It is refused only for the reason that the fault says, which the file then has. A fault has the number of the first record
 /// that can't be taken.
@@ -107,7 +109,7 @@ pub fn resume<'a, A: Allocator + Copy>(
     octets: &'a [u8],
 ) -> Result<Resumed<'a, A>, ResumeFault>
     ensures journal { IfOk result (λ r. IsJournal site_sum site.value number octets.now r.book r.last r.left.now) }
-    ensures reason { IfErr result (λ fault. IsReason fault site_sum number octets.now) }
+    ensures reason { IfErr result (λ fault. IsReason fault site_sum site.value number octets.now) }
 {
     let records = match behind_first_line(octets) {
         Ok(records) => records,

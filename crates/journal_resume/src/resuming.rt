@@ -1,7 +1,8 @@
 //! The book to which records lead, one behind another.
 ghost use Rattle.std.specs.Prelude.{◌≡◌, ◌+◌, OnOk, OnErr, IfOk, IfErr, MatchOption};
-ghost use Rattle.radio_book.specs.Run.{run_book};
-ghost use Rattle.trace_entries.specs.Entries.{entries_of, events_of};
+ghost use Rattle.radio_book.specs.State.{State};
+ghost use Rattle.radio_book.specs.Run.{run_book, run_replies};
+ghost use Rattle.trace_entries.specs.Entries.{entries_of, events_of, HasReplies};
 ghost use Rattle.journal_records.specs.Records.{BeginsWith};
 ghost use Rattle.journal_resume.specs.Ends.{IsEnd};
 ghost use Rattle.journal_resume.specs.Resume.{IsResumed};
@@ -78,7 +79,9 @@ fn take_trace<A: Allocator + Copy>(
     trace: &str,
 ) -> Result<(), ResumeFault>
     ensures book { OnOk result (book.new ≡ run_book book.old (events_of (entries_of trace.now))) }
-    ensures reason { IfErr result (λ fault. IsRecordReason fault number number trace.now) }
+    ensures replies { OnOk result (HasReplies trace.now
+        (run_replies book.old (events_of (entries_of trace.now)))) }
+    ensures reason { IfErr result (λ fault. IsRecordReason fault book.old number number trace.now) }
 {
     if first_unreadable(trace).is_some() {
         return Err(ResumeFault::Unreadable(number));
@@ -99,8 +102,10 @@ pub(crate) fn take_record<A: Allocator + Copy>(
 ) -> Result<(), ResumeFault>
     ensures number { OnOk result (taken.entry.number ≡ number) }
     ensures book { OnOk result (book.new ≡ run_book book.old (events_of (entries_of taken.entry.body.now))) }
+    ensures replies { OnOk result (HasReplies taken.entry.body.now
+        (run_replies book.old (events_of (entries_of taken.entry.body.now)))) }
     ensures reason { IfErr result (λ fault.
-        IsRecordReason fault number taken.entry.number taken.entry.body.now) }
+        IsRecordReason fault book.old number taken.entry.number taken.entry.body.now) }
 {
     if taken.number != number {
         return Err(ResumeFault::Misplaced(number));
@@ -116,7 +121,7 @@ fn next_record<'a>(octets: &'a [u8], number: u64) -> Result<Option<Record<'a>>, 
     ensures next { IfOk result (λ next. MatchOption next
         (IsEnd octets.now)
         (λ r. BeginsWith octets.now r.number r.body.now r.behind.now)) }
-    ensures reason { IfErr result (λ fault. IsNextReason fault number octets.now) }
+    ensures reason { (b : State) → IfErr result (λ fault. IsNextReason fault b number octets.now) }
 {
     match first_record(octets) {
         Ok(taken) => Ok(Some(taken)),
@@ -125,7 +130,7 @@ fn next_record<'a>(octets: &'a [u8], number: u64) -> Result<Option<Record<'a>>, 
     }
 }
 
-/// The book to which the records of a journal lead, from the book with which it begins. The octets are all that stands behind
+/// The book to which the records of a journal lead, from the book with which it begins, reply by reply. The octets are all that stands behind
 /// the head, whose number is given. A record that was cut is left.
 ///
 /// A fault has the number of the first record that can't be taken.
@@ -136,7 +141,7 @@ pub(crate) fn follow_records<'a, A: Allocator + Copy>(
     octets: &'a [u8],
 ) -> Result<Resumed<'a, A>, ResumeFault>
     ensures resumed { IfOk result (λ r. IsResumed opening number octets.now r.book r.last r.left.now) }
-    ensures reason { IfErr result (λ fault. IsReasonBehind fault (number + 1) octets.now) }
+    ensures reason { IfErr result (λ fault. IsReasonBehind fault opening (number + 1) octets.now) }
 {
     let Some(first) = number.checked_add(1) else {
         return Err(ResumeFault::Misplaced(number));

@@ -10,7 +10,8 @@ use Rattle.radio_book.specs.State.{State, empty_book}
 use Rattle.radio_book.specs.Undone.{Undone, IsUndoneAt, OpensUndone}
 use Rattle.radio_book.specs.NoTrace.{LeavesNoTrace}
 use Rattle.trace_entries.specs.declared.entries.Entry.{Entry}
-use Rattle.trace_entries.specs.Entries.{first_unreadable, entries_of}
+use Rattle.radio_book.specs.Run.{run_replies}
+use Rattle.trace_entries.specs.Entries.{first_unreadable, entries_of, events_of, HasReplies}
 use Rattle.trace_entries.specs.Entries as said
 
 -- at this place of the entries stands the one of this line, counted from 1
@@ -43,10 +44,11 @@ AreSameReplies whole others without = map (slice_get whole) others ≡ map Some 
 abbrev pub IsSame : {A : Type 0} → Rewound A → Type 0
 IsSame r = (r.whole ≡ r.without) × AreSameReplies r.whole_replies.items r.others.items r.without_replies.items
 
--- the texts describe a site and say events, and this holds of the undone attempt that opens in this line, from the empty book
--- of the site on
+-- the texts describe a site and say events with the replies of its empty book, asked one after another; and this holds of the
+-- undone attempt that opens in this line, from that book on
 pub record InTrace (P : State → List Event → Undone → Type 0) (site trace : List ℕ) (line : ℕ) : Type 0 where
   pub site_view : SiteView
   pub described : described_site site ≡ Some site_view
   pub readable : first_unreadable trace ≡ None
+  pub replies : HasReplies trace (run_replies (empty_book site_view) (events_of (entries_of trace)))
   pub holds : InEntries P (empty_book site_view) (entries_of trace) line

@@ -1,17 +1,18 @@
 //! A trace that is read back over the empty book of a site, from which all its replies come.
 ghost use Rattle.std.specs.Prelude.{◌≡◌, IfOk, IfErr, IfSome};
 ghost use Rattle.radio_book.specs.State.{empty_book};
+ghost use Rattle.radio_book.specs.Run.{run_replies};
 ghost use Rattle.trace_entries.specs.Entries as said;
 
 use cell_table::{Site, SiteFault};
 use lab_runs::run::{LabFault, Status};
 use radio_book::book::Book;
-use radio_book::event::Event;
+use radio_book::event::{Event, Reply};
 use radio_book::run::run;
 use std::alloc::{AllocError, Allocator, Global};
 use std::io::Write;
 use std::sync::Arc;
-use trace_entries::entries::{Entry, Foreign, entries_of, first_other};
+use trace_entries::entries::{Entry, Foreign, entries_of, first_other, has_replies};
 
 /// What a trace tells.
 #[derive(Drop)]
@@ -57,19 +58,22 @@ fn told_in<A: Allocator + Copy>(alloc: A, trace: &str) -> Result<Told<A>, AllocE
     Ok(Told { entries, events })
 }
 
-/// The first entry that has another reply than the book gives.
-fn first_foreign<A: Allocator + Copy>(
+/// Prints the number of the first entry's line that has another reply than the book gives.
+fn refuse_foreign<A: Allocator + Copy, W: Write>(
     alloc: A,
-    book: &Book<A>,
     trace: &str,
     told: &Told<A>,
-) -> Result<Option<Foreign>, AllocError> {
-    let (_, replies) = run(alloc, book, &told.events)?;
-    first_other(alloc, trace, &told.entries, &replies)
+    replies: &[Reply],
+    out: &mut W,
+) -> Result<(), LabFault> {
+    if let Some(foreign) = first_other(alloc, trace, &told.entries, replies)? {
+        refuse_line(foreign.entry.line(), out)?;
+    }
+    Ok(())
 }
 
-/// What a trace tells whose lines can be read; nothing where an entry has another reply than the book gives, and then the
-/// number of the first such line was printed.
+/// What a trace tells whose lines can be read; nothing where it has other replies than the book gives, and then the number of
+/// the first line that has one was printed.
 pub fn told_entries<A: Allocator + Copy, W: Write>(
     alloc: A,
     book: &Book<A>,
@@ -80,13 +84,16 @@ pub fn told_entries<A: Allocator + Copy, W: Write>(
         told.entries.items ≡ said.entries_of trace.now)) }
     ensures events { IfOk result (λ found. IfSome found (λ told.
         told.events.items ≡ said.events_of (said.entries_of trace.now))) }
+    ensures replies { IfOk result (λ found. IfSome found (λ _.
+        said.HasReplies trace.now (run_replies book.now (said.events_of (said.entries_of trace.now))))) }
 {
     let told = told_in(alloc, trace)?;
-    if let Some(foreign) = first_foreign(alloc, book, trace, &told)? {
-        refuse_line(foreign.entry.line(), out)?;
-        return Ok(None);
+    let (_, replies) = run(alloc, book, &told.events)?;
+    if has_replies(alloc, trace, &replies)? {
+        return Ok(Some(told));
     }
-    Ok(Some(told))
+    refuse_foreign(alloc, trace, &told, &replies, out)?;
+    Ok(None)
 }
 
 /// The first entry of a trace whose lines can be read, that has another reply than the book gives.
@@ -96,7 +103,8 @@ fn foreign_in<A: Allocator + Copy>(
     trace: &str,
 ) -> Result<Option<Foreign>, AllocError> {
     let told = told_in(alloc, trace)?;
-    first_foreign(alloc, book, trace, &told)
+    let (_, replies) = run(alloc, book, &told.events)?;
+    first_other(alloc, trace, &told.entries, &replies)
 }
 
 /// The first entry of a trace that has another reply than the empty book of a site gives; nothing where each has the

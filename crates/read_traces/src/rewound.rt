@@ -2,6 +2,7 @@
 ghost use Rattle.std.specs.Prelude.{◌≡◌, ◌≢◌, ◌↔◌, ◌+◌, ◌<◌, ◌^◌, ℕ, Ok, Err, Some, None, IsTrue, IfOk, IfErr, OnOk, IfSome, IfNone, slice_get};
 ghost use Rattle.cell_table.specs.SiteFile.{IsBlankFile};
 ghost use Rattle.radio_book.specs.State.{empty_book};
+ghost use Rattle.radio_book.specs.Run.{run_replies};
 ghost use Rattle.radio_book.specs.NoTrace.{LeavesNoTrace};
 ghost use Rattle.trace_entries.specs.Entries as said;
 ghost use Rattle.read_traces.specs.Rewound.{AreSameReplies, IsSame, StandsIn, LeavesATrace, NoneOpens, InEntries, InTrace};
@@ -199,6 +200,8 @@ fn rewind_entries<A: Allocator + Copy, W: Write>(
         InEntries LeavesNoTrace book.now (said.entries_of texts.entry.trace.now) line }
     ensures differs { result ≡ Ok Status.Differs →
         InEntries LeavesATrace book.now (said.entries_of texts.entry.trace.now) line }
+    ensures replies { (result ≢ Ok Status.Refused) → OnOk result (said.HasReplies texts.entry.trace.now
+        (run_replies book.now (said.events_of (said.entries_of texts.entry.trace.now)))) }
 {
     let Some(told) = told_entries(alloc, book, texts.trace, out)? else {
         return Ok(Status::Refused);
@@ -226,6 +229,8 @@ fn rewind_trace<A: Allocator + Copy, W: Write>(
         InEntries LeavesNoTrace (empty_book site) (said.entries_of texts.entry.trace.now) line }
     ensures differs { result ≡ Ok Status.Differs →
         InEntries LeavesATrace (empty_book site) (said.entries_of texts.entry.trace.now) line }
+    ensures replies { (result ≢ Ok Status.Refused) → OnOk result (said.HasReplies texts.entry.trace.now
+        (run_replies (empty_book site) (said.events_of (said.entries_of texts.entry.trace.now)))) }
     ensures memory { result ≡ Err LabFault.NoMemory → said.first_unreadable texts.entry.trace.now ≡ None }
 {
     if let Some(number) = first_unreadable(texts.trace) {

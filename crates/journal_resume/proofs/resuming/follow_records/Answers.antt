@@ -14,7 +14,7 @@ loop-next-preserved g c =
           c.loop-next.next taken.body.now taken.behind.now c.take_record.new.book
           c.loop-next.invariant.so_far
           (read_more left taken.number c.loop-next.next taken.body.now taken.behind.now begins c.in_ok-take_record.ensures.number)
-          c.loop-next.invariant.next c.in_ok-take_record.ensures.book;
+          c.loop-next.invariant.next c.in_ok-take_record.ensures.book c.in_ok-take_record.ensures.replies;
       next = refl;
     }
 
@@ -24,7 +24,7 @@ returns-in_err-taken-clause-reason g c =
     let why = c.in_err-taken.field-0.0 in
     handed_on c.from_residual.result why _ c.from_residual.ensures.1
     (reason_so_far why c.args.opening c.args.number c.args.octets.now so_far.book so_far.last c.loop-next.next so_far.left.now
-    c.loop-next.invariant.so_far c.loop-next.invariant.next c.in_err-taken.ensures.reason)
+    c.loop-next.invariant.so_far c.loop-next.invariant.next (c.in_err-taken.ensures.reason so_far.book))
 
 pub returns-in_err-take_record-clause-reason : goal.returns-in_err-take_record-clause-reason
 returns-in_err-take_record-clause-reason g c =
@@ -35,7 +35,7 @@ returns-in_err-take_record-clause-reason g c =
     handed_on c.from_residual-in_err-take_record.result why _ c.from_residual-in_err-take_record.ensures.1
     (reason_so_far why c.args.opening c.args.number c.args.octets.now so_far.book so_far.last c.loop-next.next so_far.left.now
     c.loop-next.invariant.so_far c.loop-next.invariant.next
-    (record_reason why c.loop-next.next taken.number so_far.left.now taken.body.now taken.behind.now begins c.in_err-take_record.ensures.reason))
+    (record_reason why so_far.book c.loop-next.next taken.number so_far.left.now taken.body.now taken.behind.now begins c.in_err-take_record.ensures.reason))
 
 pub returns-clause-reason : goal.returns-clause-reason
 returns-clause-reason g c =
