@@ -90,3 +90,12 @@ impl fmt::Display for Escaped<'_> {
         write_text(f, self.0)
     }
 }
+
+/// What is said behind a text that was shown: a blank that ends it can't be seen.
+pub fn end_of(text: &str) -> &'static str {
+    if text.ends_with(' ') {
+        " (a blank ends it)"
+    } else {
+        ""
+    }
+}

@@ -20,7 +20,7 @@ mod reason;
 mod tally;
 
 pub use erasing::Erasing;
-pub use escaped::Escaped;
+pub use escaped::{Escaped, end_of};
 pub use fault::PrintFault;
 pub use keeping::Keeping;
 pub use laws::lines_are_counted;

@@ -3,7 +3,7 @@ use crate::reasons::{Fault, Reason};
 use encoded_messages::{MessageFault, a_fault, abis_fault};
 use lab_script::forms::{Form, INPUTS, SETTINGS, Slot};
 use lab_script::report::{FieldsFault, fields_fault};
-use screen_text::Escaped;
+use screen_text::{Escaped, end_of};
 use std::fmt;
 
 /// The most characters of a word that are shown.
@@ -98,15 +98,6 @@ fn allowed(slot: Slot) -> &'static str {
         Slot::Held => "detection or complete",
         Slot::Answer => "ack, nack, detect, complete, failure or released",
         Slot::Fields => FIELDS,
-    }
-}
-
-/// What is said behind a word that is shown: a blank that ends it can't be seen.
-fn end_of(word: &str) -> &'static str {
-    if word.ends_with(" ") {
-        " (a blank ends it)"
-    } else {
-        ""
     }
 }
 

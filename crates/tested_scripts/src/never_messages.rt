@@ -307,7 +307,9 @@ fn outer_fault<'a, A: Allocator + Copy>(
     may_be_cut: bool,
 ) -> Result<Option<Never<'a>>, AllocError> {
     let fault = part_fault(forms_of(link), part, may_be_cut);
-    let is_rowless = link == LinkName::Abis && are_rowless(alloc, part, may_be_cut)?;
+    let is_rowless = link == LinkName::Abis
+        && fault.is_some()
+        && are_rowless(alloc, part, may_be_cut)?;
     match fault {
         Some(fault) if !is_rowless => Ok(Some(named_fault(alloc, link, part, fault)?)),
         Some(_) | None if way == Way::Out && !is_sent(link, part, may_be_cut) => {

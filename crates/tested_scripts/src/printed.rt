@@ -2,7 +2,7 @@
 //!
 //! No clause says what is printed: that is shown by tests.
 use crate::compare::CameLine;
-use screen_text::Escaped;
+use screen_text::{Escaped, end_of};
 use std::fmt;
 use std::io::{self, Write};
 
@@ -64,15 +64,6 @@ pub fn print_plan<W: Write>(out: &mut W, count: usize) -> io::Result<()> {
 /// Prints that a test is met: its number, counted from 1, and its name.
 pub fn print_met<W: Write>(out: &mut W, number: usize, name: &str) -> io::Result<()> {
     writeln!(out, "ok {number} - {}", TestName(name))
-}
-
-/// What is said behind a line that is shown: a blank that ends it can't be seen.
-fn end_of(line: &str) -> &'static str {
-    if line.ends_with(" ") {
-        " (a blank ends it)"
-    } else {
-        ""
-    }
 }
 
 /// Prints one side of a difference.
