@@ -1,13 +1,12 @@
 use Rattle.std.proofs.Common.{◌<◌, ◌∙◌, sym, length, arith}
-use Rattle.timeslots.specs.declared.Sub.TheVariants.{Full}
-use Rattle.radio_book.specs.declared.event.Event.TheVariants.{Open}
+use Rattle.radio_book.specs.declared.event.Event.TheVariants.{Look}
 use Rattle.radio_book.specs.declared.event.Reply.TheVariants.{Done}
 use Rattle.trace_entries.specs.declared.entries.Entry.{Entry}
 use Rattle.trace_entries.proofs.ReplyLemmas.{none_left, others_on}
 use Rattle.trace_entries.proofs.entries.first_among.Goals as goal
 
 abbrev none : Entry
-none = record { index = 0; event = Open 0 (record { cell = 0; trx = 0; tn = 0; sub = Full }) }
+none = record { index = 0; event = Look 0 }
 
 pub loop-place-preserved : goal.loop-place-preserved
 loop-place-preserved g c =
