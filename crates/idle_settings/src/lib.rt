@@ -1,10 +1,12 @@
-//! What a script asks and comes to nothing: of simulated stations and mobiles, of a channel that the site lacks, or of one about
-//! which nothing is sent behind it; and of a controller's book, in vain.
+//! What a script asks and comes to nothing: of simulated stations and mobiles, where the same comes without it, or of a channel that
+//! the site lacks; and of a controller's book, in vain.
 //!
 //! No clause says which these are: that is shown by tests. Of `let` nothing is said.
 #![tactic(auto)]
 
 mod found;
-mod used;
+mod lines;
+mod played;
 
 pub use found::{Cause, Idle, idle_settings};
+pub use played::Texts;

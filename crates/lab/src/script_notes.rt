@@ -3,10 +3,9 @@
 //!
 //! No clause says what the lines hold: that is shown by tests.
 use crate::site_files::SiteTexts;
-use cell_table::SiteFault;
 use expectations::{is_slipped, names_no_site};
-use idle_settings::{Cause, Idle, idle_settings};
-use lab_runs::run::{LabFault, read_sites};
+use idle_settings::{Cause, Idle, Texts, idle_settings};
+use lab_runs::run::LabFault;
 use lab_script::script::{Side, without_return};
 use screen_text::Escaped;
 use std::alloc::Global;
@@ -88,15 +87,6 @@ fn say_idle<E: Write>(path: &str, idle: Idle, errors: &mut E) -> io::Result<()> 
     }
 }
 
-/// The lines of a script that come to nothing; none where a text describes no site.
-fn idle_in(alloc: Global, texts: &SiteTexts, script: &str) -> Result<Vec<Idle>, LabFault> {
-    match read_sites(alloc, alloc, texts.first(), texts.peer()) {
-        Ok(sites) => idle_settings(alloc, sites, script),
-        Err(SiteFault::NoMemory) => Err(LabFault::NoMemory),
-        Err(_) => Ok(Vec::new(alloc)),
-    }
-}
-
 /// Says which lines of a script come to nothing, and answers them.
 pub(crate) fn say_idle_settings<E: Write>(
     alloc: Global,
@@ -105,7 +95,12 @@ pub(crate) fn say_idle_settings<E: Write>(
     script: &str,
     errors: &mut E,
 ) -> Result<Vec<Idle>, LabFault> {
-    let idle = idle_in(alloc, texts, script)?;
+    let sites = Texts {
+        scratch: alloc,
+        first: texts.first(),
+        peer: texts.peer(),
+    };
+    let idle = idle_settings(alloc, sites, script)?;
     for setting in &idle {
         say_idle(path, *setting, errors)?;
     }

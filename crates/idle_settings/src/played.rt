@@ -1,0 +1,192 @@
+//! A script that is played, and what comes of each of its lines.
+use crate::lines::{Line, lines_of};
+use bts_model::Setting;
+use cell_table::{Site, SiteFault};
+use lab_runs::asked::Unmet;
+use lab_runs::listener::{Listener, Printing};
+use lab_runs::run::{LabFault, Sites, play, read_sites};
+use lab_runs::turn::Turn;
+use radio_book::book::Book;
+use std::alloc::{AllocError, Allocator, Global};
+use std::io::{self, ErrorKind, Write};
+use trace_text::trace::Mark;
+
+/// The texts of a controller's site, of its peer's where there is one, and what serves while they are read.
+#[derive(Clone, Copy)]
+pub struct Texts<'a> {
+    pub scratch: Global,
+    pub first: &'a str,
+    pub peer: Option<&'a str>,
+}
+
+impl Texts<'_> {
+    /// The sites; nothing where a text describes none.
+    pub(crate) fn sites<A: Allocator + Copy>(self, alloc: A) -> Result<Option<Sites<A>>, LabFault> {
+        match read_sites(alloc, self.scratch, self.first, self.peer) {
+            Ok(sites) => Ok(Some(sites)),
+            Err(SiteFault::NoMemory) => Err(LabFault::NoMemory),
+            Err(_) => Ok(None),
+        }
+    }
+}
+
+/// A writer to which nothing else may be written than what is expected: it fails at the first octet that is another.
+#[derive(Drop)]
+struct Matching<'a> {
+    expected: &'a [u8],
+}
+
+impl Write for Matching<'_> {
+    fn write(&mut self, octets: &[u8]) -> io::Result<usize> {
+        if !self.expected.starts_with(octets) {
+            return Err(io::Error::from(ErrorKind::InvalidData));
+        }
+        self.expected = self.expected.get(octets.len()..).unwrap_or(&[]);
+        Ok(octets.len())
+    }
+
+    fn flush(&mut self) -> io::Result<()> {
+        Ok(())
+    }
+}
+
+/// What lines asked of the mobile of a call, and why nothing came of those that asked in vain, behind their numbers.
+#[derive(Drop)]
+pub(crate) struct Asked<A: Allocator = Global> {
+    pub settings: Vec<(usize, Setting), A>,
+    pub unmet: Vec<(usize, Unmet), A>,
+}
+
+impl<A: Allocator + Copy> Asked<A> {
+    /// Nothing yet.
+    pub(crate) fn new(alloc: A) -> Asked<A> {
+        Asked {
+            settings: Vec::new(alloc),
+            unmet: Vec::new(alloc),
+        }
+    }
+}
+
+/// A listener that prints to `out` what comes of each input, behind the number of the line of which it comes, and notes what lines
+/// asked.
+#[derive(Drop)]
+struct Hearing<'o, 'l, 's, W: Write, A: Allocator + Copy> {
+    out: &'o mut W,
+    /// Those of the lines that give something which didn't begin yet.
+    lines: &'l [Line],
+    /// The number of the line that began last.
+    number: usize,
+    asked: &'s mut Asked<A>,
+}
+
+impl<W: Write, A: Allocator + Copy> Hearing<'_, '_, '_, W, A> {
+    /// Prints the number of the line that began last.
+    fn print_number(&mut self) -> io::Result<()> {
+        let number = self.number;
+        write!(self.out, "{number} ")
+    }
+}
+
+impl<W: Write, A: Allocator + Copy> Listener<A> for Hearing<'_, '_, '_, W, A> {
+    fn hear_item(&mut self) -> Result<(), LabFault> {
+        if let [line, behind @ ..] = self.lines {
+            self.number = line.number;
+            self.lines = behind;
+        }
+        Ok(())
+    }
+
+    fn hear_unmet(&mut self, unmet: Unmet) -> Result<(), LabFault> {
+        let number = self.number;
+        Ok(
+            self.asked
+                .unmet
+                .push((number, unmet))
+                .map_err(AllocError::from)?,
+        )
+    }
+
+    fn hear_set(&mut self, setting: Setting) -> Result<(), LabFault> {
+        let number = self.number;
+        let kept = self.asked.settings.push((number, setting));
+        Ok(kept.map_err(AllocError::from)?)
+    }
+
+    fn hear_turn(&mut self, mark: Mark, turn: &Turn<A>, book: &Book<A>) -> Result<(), LabFault> {
+        self.print_number()?;
+        Printing::new(self.out).hear_turn(mark, turn, book)
+    }
+
+    fn hear_limit(&mut self) -> Result<(), LabFault> {
+        self.print_number()?;
+        Ok(writeln!(self.out, "limit")?)
+    }
+
+    fn hear_end(&mut self, _mark: Mark, _book: &Book<A>) -> Result<(), LabFault> {
+        Ok(())
+    }
+
+    fn hear_no_site(&mut self, _fault: SiteFault) -> io::Result<()> {
+        Ok(())
+    }
+
+    fn hear_unreadable(&mut self, _line: usize) -> io::Result<()> {
+        Ok(())
+    }
+}
+
+/// Plays a script, whose lines that give something are these, prints what comes of them, and notes what they ask. Answers whether
+/// it was run: the texts describe sites, and its lines can be read.
+fn play_to<A: Allocator + Copy, W: Write>(
+    alloc: A,
+    sites: Texts<'_>,
+    script: &str,
+    lines: &[Line],
+    out: &mut W,
+    asked: &mut Asked<A>,
+) -> Result<bool, LabFault> {
+    let Some(sites) = sites.sites(alloc)? else {
+        return Ok(false);
+    };
+    let mut hearing = Hearing {
+        out,
+        lines,
+        number: 0,
+        asked,
+    };
+    Ok(play(alloc, sites, script, &mut hearing)?.is_some())
+}
+
+/// What comes of the lines of a script, which are these; what they ask is noted. Nothing where it isn't run.
+pub(crate) fn trace_of<A: Allocator + Copy>(
+    alloc: A,
+    sites: Texts<'_>,
+    script: &str,
+    lines: &[Line],
+    asked: &mut Asked<A>,
+) -> Result<Option<Vec<u8, A>>, LabFault> {
+    let mut trace = Vec::new(alloc);
+    match play_to(alloc, sites, script, lines, &mut trace, asked) {
+        Ok(true) => Ok(Some(trace)),
+        Ok(false) => Ok(None),
+        // what is kept in memory lacks nothing but that
+        Err(LabFault::Write | LabFault::NoMemory) => Err(LabFault::NoMemory),
+    }
+}
+
+/// Whether this comes of the lines of a script.
+pub(crate) fn gives_trace<A: Allocator + Copy>(
+    alloc: A,
+    sites: Texts<'_>,
+    script: &str,
+    trace: &[u8],
+) -> Result<bool, LabFault> {
+    let lines = lines_of(alloc, script, sites.peer.is_some())?;
+    let mut matching = Matching { expected: trace };
+    let mut asked = Asked::new(alloc);
+    match play_to(alloc, sites, script, &lines, &mut matching, &mut asked) {
+        Ok(is_run) => Ok(is_run && matching.expected.is_empty()),
+        Err(LabFault::Write) => Ok(false),
+        Err(LabFault::NoMemory) => Err(LabFault::NoMemory),
+    }
+}
