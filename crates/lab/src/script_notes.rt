@@ -12,9 +12,11 @@ use std::alloc::Global;
 use std::io::{self, Write};
 use tested_scripts::{NeverLine, never_lines};
 
-/// What is said of a comment that looks like one which was to say something.
+/// What is said of a comment that looks like one which was to say something, or that says it without its blank.
 fn slip_of(line: &str) -> Option<&'static str> {
-    if is_slipped(line) {
+    if line.starts_with("#>") && is_slipped(line) {
+        Some("an expectation without a blank behind \"#>\": was one meant?")
+    } else if is_slipped(line) {
         Some("an expectation but for a blank? \"#> \", \"#! \" and \"#= \" begin one")
     } else if names_no_site(line) {
         Some("names nothing: \"#% site PATH\" and \"#% peer PATH\" name sites")

@@ -35,6 +35,10 @@ pub enum Never<'a> {
     First,
     /// Of the line before it nothing comes.
     Silent,
+    /// It is the trace's end, and not the last line of the script stands before it.
+    End,
+    /// No simulators are attached before it.
+    NoSimulators,
 }
 
 impl fmt::Display for Never<'_> {
@@ -51,6 +55,8 @@ impl fmt::Display for Never<'_> {
             Never::Ignored => write!(f, "what is ignored is said by --words alone"),
             Never::First => write!(f, "no line stands before it"),
             Never::Silent => write!(f, "nothing ever comes of the line before it"),
+            Never::End => write!(f, "the trace's end comes behind the last line alone"),
+            Never::NoSimulators => write!(f, "no line sim stands before it"),
         }
     }
 }
@@ -65,54 +71,63 @@ pub struct NeverLine<'a> {
     pub why: Never<'a>,
 }
 
-/// The lines of a trace behind their marks, word by word. `N` stands for a number, `C` for a channel, and `..` for any words.
+/// The lines of a trace behind their marks, word by word, events without their replies. `N` stands for a number, `C` for a channel,
+/// `|` between words, of which one stands there, and `..` for any words.
 const LINES: &[&str] = &[
     "in open N N N C",
-    "in seize N N full",
-    "in seize N N half",
+    "in seize N N full|half",
     "in handover N N",
     "in undo N",
     "in clear N",
-    "in expire N T3103",
-    "in expire N T7",
-    "in expire N T8",
+    "in expire N T3103|T7|T8",
     "in abis N N ..",
     "in a N ..",
-    "event open N C -> ..",
-    "event clear N -> ..",
-    "event look N -> ..",
-    "event take N internal C -> ..",
-    "event take N incoming C -> ..",
-    "event reserve N N -> ..",
-    "event activate N -> ..",
-    "event command N -> ..",
-    "event complete N -> ..",
-    "event undo N asked -> ..",
-    "event undo N t3103 -> ..",
-    "event undo N t7 -> ..",
-    "event undo N t8 -> ..",
-    "event require N -> ..",
-    "event order N -> ..",
-    "event left N -> ..",
-    "event confirm C -> ..",
-    "event refuse C -> ..",
-    "event detect C -> ..",
-    "event released C -> ..",
-    "event owner C -> ..",
     "none free N",
     "out abis N N ..",
     "out a N ..",
-    "fault abis N N",
-    "fault a N N",
-    "fault rr N N",
+    "fault abis|a|rr N N",
     "end channels=N calls=N references=N timers=N",
+];
+
+/// Events, and what the book may reply to them in a run (TS 44.018 clause 3.4.4, TS 48.008 clause 3.1.5): what it refuses, and
+/// what it tells of a call, whose attempt has come so far.
+const EVENTS: &[&str] = &[
+    "open N C -> done",
+    "open N C -> refused 2|4",
+    "open N C -> refused 6 C",
+    "clear N -> done",
+    "clear N -> refused 1|3",
+    "look N -> refused 1",
+    "look N -> record C held|pending|on",
+    "look N -> record C on internal sent|refused|confirmed|commanded|detected C N",
+    "look N -> record - - incoming sent|refused|confirmed|commanded|detected C N",
+    "look N -> record C on outgoing required|ordered - -",
+    "take N internal C -> done",
+    "take N internal C -> refused 1|3|4|5",
+    "take N internal C -> refused 6 C",
+    "take N incoming C -> done",
+    "take N incoming C -> refused 2|4",
+    "take N incoming C -> refused 6 C",
+    "reserve N N -> done",
+    "reserve N N -> refused 1|3",
+    "activate|command|complete|require|order|left N -> done",
+    "activate|command|complete|require|order|left N -> refused 1|3",
+    "undo N asked -> record C on internal sent|refused|confirmed|commanded|detected C N",
+    "undo N asked -> record - - incoming sent|refused|confirmed|commanded|detected C N",
+    "undo N asked -> record C on outgoing required|ordered - -",
+    "undo N asked -> refused 1|3",
+    "undo N t3103 -> record C on internal commanded|detected C N",
+    "undo N t3103 -> record - - incoming commanded|detected C N",
+    "undo N t7 -> record C on outgoing required - -",
+    "undo N t8 -> record C on outgoing ordered - -",
+    "undo N t3103|t7|t8 -> refused 1|9",
+    "confirm|refuse|detect|owner C -> owned N",
+    "confirm|refuse|detect|released|owner C -> refused 8 C",
+    "released C -> done",
 ];
 
 /// The line of a trace that has no mark, also of two controllers.
 const LIMIT: &str = "sim limit";
-
-/// What may stand behind the arrow of an event.
-const REPLIES: &[&str] = &["done", "owned N", "record ..", "refused N .."];
 
 /// Whether a text has decimal digits alone, and no zero in front of another. There may be none where it is cut.
 pub(crate) fn is_number(text: &str, is_cut: bool) -> bool {
@@ -139,6 +154,11 @@ fn behind_front<'a>(word: &'a str, front: &str, is_cut: bool) -> Option<&'a str>
 
 /// Whether a word is one that a form has in this place. It may be cut where it is the last of its text.
 fn is_word_of(word: &str, form: &str, is_cut: bool) -> bool {
+    form.split('|').any(|one| is_one_word_of(word, one, is_cut))
+}
+
+/// Whether a word is this one, or of these.
+fn is_one_word_of(word: &str, form: &str, is_cut: bool) -> bool {
     if form == ".." {
         return true;
     }
@@ -163,23 +183,28 @@ fn can_begin(text: &str, form: &str) -> bool {
         ))
 }
 
-/// Whether what stands behind the arrow of an event, if there is one, is a reply or begins one.
-fn can_reply(text: &str) -> bool {
-    match text.split_once(" -> ") {
-        Some((_, reply)) => REPLIES.iter().any(|form| can_begin(reply, *form)),
-        None => true,
+/// Whether the line of an event can begin with a text.
+fn can_be_event(text: &str) -> bool {
+    match text.strip_prefix("event ") {
+        Some(event) => EVENTS.iter().any(|form| can_begin(event, *form)),
+        None => "event ".starts_with(text),
     }
 }
 
 /// Whether a line of a controller can begin with a text, its message left aside.
 fn can_be_line(text: &str) -> bool {
-    can_reply(text) && LINES.iter().any(|form| can_begin(text, *form))
+    can_be_event(text) || LINES.iter().any(|form| can_begin(text, *form))
 }
 
 /// Whether a text begins with the mark of a controller, or with a part of one.
 fn is_marked(text: &str) -> bool {
     without_mark(text) != text
         || (!text.is_empty() && ("1: ".starts_with(text) || "2: ".starts_with(text)))
+}
+
+/// Whether no other line of a trace can begin with a text than that of simulators whose answers are too many.
+fn is_limit(text: &str) -> bool {
+    !text.is_empty() && LIMIT.starts_with(text)
 }
 
 /// Why no line that comes of one controller, or of two, can be as a text says; nothing where one can.
@@ -246,18 +271,40 @@ fn last_place(script: &str) -> Option<usize> {
     last
 }
 
-/// Why no line can be as a text says that stands behind this line of the script, if behind any. The trace's end comes behind the
-/// last, or by itself.
+/// Whether a line of a script attaches simulators.
+fn attaches(line: &str) -> bool {
+    let (_, text) = cut_side(line);
+    let (word, rest) = cut_word(text);
+    form_of(word, rest) == Some(Form::Sim)
+}
+
+/// What stands before an expectation.
+#[derive(Clone, Copy)]
+struct Before<'a> {
+    /// The line of which comes what it is about.
+    line: Option<&'a str>,
+    /// Whether that is the script's last.
+    is_last: bool,
+    has_simulators: bool,
+}
+
+/// Why no line can be as a text says that stands behind these lines, if behind any. The trace's end comes behind the last, or by
+/// itself.
 fn why_never_behind<'a, A: Allocator + Copy>(
     alloc: A,
     text: &'a str,
     has_peer: bool,
-    before: Option<&str>,
-    is_last: bool,
+    before: Before<'_>,
 ) -> Result<Option<Never<'a>>, AllocError> {
-    match before {
-        None if !is_last => Ok(Some(Never::First)),
-        Some(line) if is_silent(line) && !is_last => Ok(Some(Never::Silent)),
+    match before.line {
+        None if !before.is_last => Ok(Some(Never::First)),
+        Some(line) if is_silent(line) && !before.is_last => Ok(Some(Never::Silent)),
+        Some(_) if without_mark(text).starts_with("end") && !before.is_last => {
+            Ok(Some(Never::End))
+        }
+        Some(_) | None if is_limit(text) && !before.has_simulators => {
+            Ok(Some(Never::NoSimulators))
+        }
         Some(_) | None => why_never(alloc, text, has_peer),
     }
 }
@@ -271,14 +318,21 @@ pub fn never_lines<'a, A: Allocator + Copy>(
 ) -> Result<Vec<NeverLine<'a>, A>, AllocError> {
     let mut found = Vec::new(alloc);
     let last = last_place(script);
-    let mut before = None;
+    let mut before = Before {
+        line: None,
+        is_last: last.is_none(),
+        has_simulators: false,
+    };
     for (place, line) in script.split('\n').enumerate() {
         let line = without_return(line);
         if is_script_line(line) {
-            before = Some(line);
+            before = Before {
+                line: Some(line),
+                is_last: last == Some(place),
+                has_simulators: before.has_simulators || attaches(line),
+            };
         } else if let Some(refused) = refused_in(line)
-            && let is_last = last.is_none_or(|last| last < place)
-            && let Some(why) = why_never_behind(alloc, refused, has_peer, before, is_last)?
+            && let Some(why) = why_never_behind(alloc, refused, has_peer, before)?
         {
             let line = place.saturating_add(1);
             found.push(NeverLine { line, refused, why })?;
