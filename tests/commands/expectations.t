@@ -359,10 +359,10 @@ A line can begin so: it may end within a word, or a message may be in part.
   > #! event t
   > #! event take 1 internal 1/
   > #! event open 1 0/0/3 -> refused
-  > #! event look 1 -> own
+  > #! event confirm 0/0/3 -> own
+  > #! event undo 1 asked -> record 0/0/3 on outgoing req
   > #! none
   > #! fault abis 3 26
-  > #! sim limit
   > #! end channels=0
   > #! out abis 1 0 CHANNEL ACTI
   > #! out abis 0 0 CHANNEL ACTIVATION tn=7 act
@@ -373,6 +373,42 @@ A line can begin so: it may end within a word, or a message may be in part.
   > #! in abis 0 0 ERROR INDICATION; ignored: no row
   > #! in abis 0 0 MEASUREMENT RESULT; MEASUREMENT REPORT n=20/1/21 n=20/1/21
   > END
+  $ ./lab test examples/two_cells.toml script.txt
+  1..1
+  ok 1 - script.txt
+
+An event gets its own replies alone; the trace's end comes behind the last line, and there are no simulators without `sim`.
+
+  $ cat >script.txt <<'END'
+  > open 1 0 0 3
+  > #! event open 1 0/0/3 -> refused 1
+  > #! event open 1 0/0/3 -> owned 1
+  > #! event undo 1 asked -> done
+  > #! event undo 1 t7 -> record 0/0/3 on internal
+  > #! event look 1 -> record 0/0/3 on internal taken
+  > #! event look 1 -> record - - outgoing
+  > #! event confirm 0/0/3 -> done
+  > #! event released 0/0/3 -> owned
+  > #! event reserve 1 0 -> refused 7
+  > #! end channels=1
+  > #! sim limit
+  > clear 1
+  > #! end channels=2
+  > END
+  $ ./lab test examples/two_cells.toml script.txt 2>&1 >/dev/null
+  script.txt:2: never missed: no line of a trace begins so
+  script.txt:3: never missed: no line of a trace begins so
+  script.txt:4: never missed: no line of a trace begins so
+  script.txt:5: never missed: no line of a trace begins so
+  script.txt:6: never missed: no line of a trace begins so
+  script.txt:7: never missed: no line of a trace begins so
+  script.txt:8: never missed: no line of a trace begins so
+  script.txt:9: never missed: no line of a trace begins so
+  script.txt:10: never missed: no line of a trace begins so
+  script.txt:11: never missed: the trace's end comes behind the last line alone
+  script.txt:12: never missed: no line sim stands before it
+  [1]
+  $ printf 'sim\nopen 1 0 0 3\n#! sim limit\n#! s\nclear 1\n#! end channels=1\n' >script.txt
   $ ./lab test examples/two_cells.toml script.txt
   1..1
   ok 1 - script.txt
@@ -618,9 +654,11 @@ A script that expects nothing isn't met, nor is one whose comments have slipped:
   script.txt:4: an expectation but for a blank? "#> ", "#! " and "#= " begin one
   script.txt:5: an expectation but for a blank? "#> ", "#! " and "#= " begin one
   script.txt:6: an expectation but for a blank? "#> ", "#! " and "#= " begin one
-  $ printf 'open 1 0 0 3\n#>..\n#>\n' >script.txt
+  $ printf 'open 1 0 0 3\n#>..\n#>\n#!\n#=\n' >script.txt
   $ ./lab test examples/two_cells.toml script.txt 2>&1 >/dev/null
-  script.txt:2: an expectation but for a blank? "#> ", "#! " and "#= " begin one
+  script.txt:2: an expectation without a blank behind "#>": was one meant?
+  script.txt:4: an expectation but for a blank? "#> ", "#! " and "#= " begin one
+  script.txt:5: an expectation but for a blank? "#> ", "#! " and "#= " begin one
   [1]
 
 So is what looks as if it named a site.

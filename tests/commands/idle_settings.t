@@ -1,6 +1,5 @@
-Lines for simulated stations and mobiles that come to nothing: the site lacks the channel, or nothing happens there behind
-them that they are about. A mobile's habit is about a HANDOVER COMMAND. `run` says so on standard error at its end; a test
-isn't met.
+Lines for simulated stations and mobiles that come to nothing: the site lacks the channel, or the same comes of each line
+without them. `run` says so on standard error at its end; a test isn't met.
 
   $ cat >idle.txt <<'END'
   > sim
@@ -75,7 +74,8 @@ All of these are used; what is cut may not say any more which channel it is abou
   1..1
   ok 1 - used.txt
 
-So are those in whose place another comes, an answer that isn't cut, and one that is about another channel.
+These aren't: two in whose place another comes, which isn't used either, as the activation is refused; one that is said again;
+one of an answer that isn't cut; one about another channel.
 
   $ cat >again.txt <<'END'
   > sim
@@ -91,8 +91,8 @@ So are those in whose place another comes, an answer that isn't cut, and one tha
   > #> ..
   > END
   $ ./lab run examples/two_cells.toml again.txt 2>&1 >/dev/null
-  again.txt:3: said again before it is used: nothing comes of it on 0/0/3
-  again.txt:4: said again before it is used: nothing comes of it on 0/0/3
+  again.txt:3: never used: nothing comes of it on 0/0/3
+  again.txt:4: never used: nothing comes of it on 0/0/3
   again.txt:5: said again before it is used: nothing comes of it on 1/1/3
   again.txt:7: never used: nothing comes of it on 1/1/3
   again.txt:8: never used: nothing comes of it on 0/0/2
@@ -237,12 +237,15 @@ An answer that is cut and comes twice uses both.
   2
   $ ./lab run examples/two_cells.toml both_ways.txt 2>&1 >/dev/null
 
-A setting is said again before it is used, also where something else comes between; but what a mobile does may be set back.
+A setting is said again before it is used, also where something else comes between. To set back what nothing was done by comes
+to nothing, too.
 
   $ printf 'sim\nrefuse 1 1 3\nopen 1 0 0 3\nmobile 1 vanish\nopen 2 0 0 2\nmobile 1 arrive\nrefuse 1 1 3\n' >between.txt
   $ printf 'handover 1 1\nhandover 1 1\nmobile 1 return\n' >>between.txt
   $ ./lab run examples/two_cells.toml between.txt 2>&1 >/dev/null
   between.txt:2: said again before it is used: nothing comes of it on 1/1/3
+  between.txt:4: said again before it is used: nothing comes of it on 0/0/3
+  between.txt:6: never used: nothing comes of it on 0/0/3
   between.txt:10: never used: nothing comes of it on 1/1/3
 
 A channel is looked for at the controller whose mark the line has. A mobile may come there from the other one.
@@ -252,3 +255,31 @@ A channel is looked for at the controller whose mark the line has. A mobile may 
   two.txt:2: the second controller's site has no channel 0/0/3
   $ printf 'sim\n2: hold 0 0 1 detection\nopen 1 0 0 3\nhandover 1 64\n#> ..\n' >comes.txt
   $ ./lab run examples/two_cells.toml comes.txt --peer examples/one_cell.toml 2>&1 >/dev/null
+
+What a station would do with a mobile that it hasn't comes to nothing: it knows nothing of what came before `sim`, or of a channel
+that it refused. So does what is kept back of a mobile that goes elsewhere, or is heard of no more.
+
+  $ printf 'open 1 0 0 3\nanswer 1 ack\nsim\nmobile 1 return\nhold 1 1 3 complete\nhandover 1 1\n#> ..\n' >before.txt
+  $ ./lab run examples/two_cells.toml before.txt 2>&1 >/dev/null
+  before.txt:4: never used: nothing comes of it on 0/0/3
+  before.txt:5: never used: nothing comes of it on 1/1/3
+  $ printf 'sim\nopen 1 0 0 3\nmobile 1 vanish\nhold 1 1 3 complete\nhandover 1 1\nexpire 1 T3103\n#> ..\n' >gone.txt
+  $ ./lab run examples/two_cells.toml gone.txt 2>&1 >/dev/null
+  gone.txt:4: never used: nothing comes of it on 1/1/3
+  $ printf 'sim\nopen 1 0 0 3\nmobile 1 return\nhandover 1 1\nmobile 1 arrive\nhandover 1 1\n#> ..\n' >back.txt
+  $ ./lab test examples/two_cells.toml back.txt
+  1..1
+  ok 1 - back.txt
+
+What is let go at once was kept back all the same: it comes of another line.
+
+  $ printf 'sim\nhold 0 0 3\nopen 1 0 0 3\nlet 0 0 3\n#> ..\n' >let.txt
+  $ ./lab test examples/two_cells.toml let.txt
+  1..1
+  ok 1 - let.txt
+
+Where more than 100,000 lines would be played to find out, nothing is looked at.
+
+  $ { echo sim; for n in $(seq 320); do printf 'refuse 0 0 3\n'; done; } >many.txt
+  $ ./lab run examples/two_cells.toml many.txt 2>&1 >/dev/null | wc -l
+  0

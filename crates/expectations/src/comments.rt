@@ -52,16 +52,17 @@ fn is_glued(text: &str) -> bool {
     }
 }
 
-/// Whether a text begins with one of the other marks, and a letter, a digit or a tab stands behind that.
+/// Whether a text is one of the other marks, or a letter, a digit or a tab stands behind one that begins it.
 fn is_glued_mark(text: &str) -> bool {
     match text.as_bytes() {
+        [b'!' | b'='] => true,
         [b'!' | b'=', octet, ..] => octet.is_ascii_alphanumeric() || *octet == b'\t',
         _ => false,
     }
 }
 
 /// Whether a comment looks like one that was to expect something, but for a blank that is missing or too many: `# >`, `#>`
-/// without its blank, and so `#!` or `#=` before a letter, a digit or a tab.
+/// without its blank, and so `#!` or `#=` before a letter, a digit or a tab, or alone.
 ///
 /// No clause says which do: nothing but a line for a person hangs on it.
 pub fn is_slipped(line: &str) -> bool {
