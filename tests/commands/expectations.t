@@ -144,17 +144,17 @@ Nor is one so in words, as `#>` takes them: with other fields between, in anothe
 
 It is of all that comes up to the next line: what simulators answer, and at the end of the script the trace's end.
 
-  $ printf 'sim\nopen 1 0 0 3\n#! event confirm\n#! end\nclear 1\n#! end channels=0\n#! in abis 0 0 RF CHANNEL RELEASE ACK\n' >script.txt
+  $ printf 'sim\nopen 1 0 0 3\n#! event confirm\nclear 1\n#! end channels=0\n#! in abis 0 0 RF CHANNEL RELEASE ACK\n' >script.txt
   $ ./lab test examples/two_cells.toml script.txt
   1..1
   not ok 1 - script.txt
   # line 3
   # expected none that begins with: event confirm
   # came: event confirm 0/0/3 -> owned 1
-  # line 6
+  # line 5
   # expected none that begins with: end channels=0
   # came: end channels=0 calls=0 references=0 timers=0
-  # line 7
+  # line 6
   # expected none that begins with: in abis 0 0 RF CHANNEL RELEASE ACK
   # came: in abis 0 0 0833010b
   [1]
@@ -620,10 +620,10 @@ Without a mark `#=` says nothing of two controllers, and isn't met; `#!` is of a
   # came: 2: no trx 0/1
   [1]
 
-  $ printf 'open 1 0 0 3\n#! 1: sim limit\n#! 2: out abs\n#! sim limit\n#! 2: o\n#! 2:\n' >script.txt
+  $ printf 'sim\n#> ..\nopen 1 0 0 3\n#! 1: sim limit\n#! 2: out abs\n#! sim limit\n#! 2: o\n#! 2:\n' >script.txt
   $ ./lab test examples/two_cells.toml script.txt --peer examples/one_cell.toml 2>&1 >/dev/null
-  script.txt:2: never missed: no line of a trace begins so
-  script.txt:3: never missed: no line of a trace begins so
+  script.txt:4: never missed: no line of a trace begins so
+  script.txt:5: never missed: no line of a trace begins so
   [1]
 
 A script that expects nothing isn't met, nor is one whose comments have slipped: that is told on standard error.

@@ -74,8 +74,8 @@ All of these are used; what is cut may not say any more which channel it is abou
   1..1
   ok 1 - used.txt
 
-These aren't: two in whose place another comes, which isn't used either, as the activation is refused; one that is said again;
-one of an answer that isn't cut; one about another channel.
+These aren't: one in whose place another comes, which isn't used either, as the activation is refused; one that is said again; one
+of an answer that isn't cut; one about another channel.
 
   $ cat >again.txt <<'END'
   > sim
@@ -92,7 +92,6 @@ one of an answer that isn't cut; one about another channel.
   > END
   $ ./lab run examples/two_cells.toml again.txt 2>&1 >/dev/null
   again.txt:3: never used: nothing comes of it on 0/0/3
-  again.txt:4: never used: nothing comes of it on 0/0/3
   again.txt:5: said again before it is used: nothing comes of it on 1/1/3
   again.txt:7: never used: nothing comes of it on 1/1/3
   again.txt:8: never used: nothing comes of it on 0/0/2
@@ -164,7 +163,6 @@ HANDOVER COMMAND to the channel, behind the line.
   $ ./lab run examples/two_cells.toml calls.txt 2>&1 >/dev/null
   calls.txt:2: nothing comes of it: there is no call 1
   calls.txt:4: never used: nothing comes of it on 0/0/3
-  calls.txt:7: never used: nothing comes of it on 0/0/3
   calls.txt:8: never used: nothing comes of it on 1/1/3
   calls.txt:9: never used: nothing comes of it on 1/1/3
   $ ./lab test examples/two_cells.toml calls.txt 2>/dev/null
@@ -172,7 +170,6 @@ HANDOVER COMMAND to the channel, behind the line.
   not ok 1 - calls.txt
   # line 2 comes to nothing
   # line 4 comes to nothing
-  # line 7 comes to nothing
   # line 8 comes to nothing
   # line 9 comes to nothing
   [1]
@@ -237,15 +234,13 @@ An answer that is cut and comes twice uses both.
   2
   $ ./lab run examples/two_cells.toml both_ways.txt 2>&1 >/dev/null
 
-A setting is said again before it is used, also where something else comes between. To set back what nothing was done by comes
-to nothing, too.
+A setting is said again before it is used, also where something else comes between. Nothing is said of what sets back.
 
   $ printf 'sim\nrefuse 1 1 3\nopen 1 0 0 3\nmobile 1 vanish\nopen 2 0 0 2\nmobile 1 arrive\nrefuse 1 1 3\n' >between.txt
   $ printf 'handover 1 1\nhandover 1 1\nmobile 1 return\n' >>between.txt
   $ ./lab run examples/two_cells.toml between.txt 2>&1 >/dev/null
   between.txt:2: said again before it is used: nothing comes of it on 1/1/3
   between.txt:4: said again before it is used: nothing comes of it on 0/0/3
-  between.txt:6: never used: nothing comes of it on 0/0/3
   between.txt:10: never used: nothing comes of it on 1/1/3
 
 A channel is looked for at the controller whose mark the line has. A mobile may come there from the other one.

@@ -1,7 +1,7 @@
 //! The lines of a script that come to nothing.
 use crate::lines::{Kind, Line, chan_of, lines_of, without_line};
 use crate::played::{Asked, Texts, gives_trace, trace_of};
-use bts_model::{Act, Setting};
+use bts_model::{Act, Habit, Setting};
 use channel_fsm::ChanId;
 use lab_runs::asked::Unmet;
 use lab_runs::run::{LabFault, Sites};
@@ -93,12 +93,14 @@ enum Order {
     Backward,
 }
 
-/// How a setting is looked at; nothing where it isn't: what is let go may be nothing.
+/// How a setting is looked at; nothing where it sets back what another asked: there may be nothing to set back.
 fn order_of(act: Act) -> Option<Order> {
     match act {
-        Act::Refuse | Act::Mobile(_) | Act::Double | Act::Cut(_) => Some(Order::Forward),
+        Act::Refuse | Act::Mobile(Habit::Return | Habit::Vanish) | Act::Double | Act::Cut(_) => {
+            Some(Order::Forward)
+        }
         Act::Hold(_) => Some(Order::Backward),
-        Act::Release => None,
+        Act::Mobile(Habit::Arrive) | Act::Release => None,
     }
 }
 
@@ -251,8 +253,8 @@ fn look_at_all<A: Allocator + Copy>(
 }
 
 /// The lines of a script that come to nothing over sites, in their order: settings for a channel that a site lacks; settings
-/// without which the same comes of each line, one after another, until each that is left matters (but for `let`, and where more
-/// than 100,000 lines would be played for it); lines that ask a controller's book in vain. Nothing is said of a script that can't
+/// without which the same comes of each line, one after another, until each that is left matters (but for `let` and `arrive`, which
+/// set back, and where more than 100,000 lines would be played for it); lines that ask a controller's book in vain. Nothing is said of a script that can't
 /// be read, nor where a text describes no site.
 pub fn idle_settings<A: Allocator + Copy>(
     alloc: A,
