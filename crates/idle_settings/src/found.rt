@@ -32,14 +32,15 @@ pub struct Idle {
     pub cause: Cause,
 }
 
-/// What was noted of the line of this number.
-fn noted_of<T: Copy>(notes: &[(usize, T)], number: usize) -> Option<T> {
-    for (of, noted) in notes {
-        if *of == number {
-            return Some(*noted);
-        }
+/// What was noted of the line of this number, where it is the first of the notes; and the other notes.
+fn noted_first(
+    notes: &[(usize, Setting)],
+    number: usize,
+) -> (Option<Setting>, &[(usize, Setting)]) {
+    match notes {
+        [(of, noted), behind @ ..] if *of == number => (Some(*noted), behind),
+        [..] => (None, notes),
     }
-    None
 }
 
 /// Whether the site of a side has a channel.
@@ -188,11 +189,11 @@ fn may_be_idle(lines: &[Line]) -> bool {
     })
 }
 
-/// The setting of a line, where it is one.
-fn setting_of<A: Allocator>(line: Line, asked: &Asked<A>) -> Option<Placed> {
+/// The setting of a line, where it is one; this is what it asked of the mobile of a call.
+fn setting_of(line: Line, asked: Option<Setting>) -> Option<Placed> {
     let (side, setting) = match line.kind {
         Kind::Setting(side, setting) => (side, setting),
-        Kind::OfCall(side) => (side, noted_of(&asked.settings, line.number)?),
+        Kind::OfCall(side) => (side, asked?),
         Kind::Ask | Kind::Other => return None,
     };
     Some(Placed {
@@ -202,9 +203,17 @@ fn setting_of<A: Allocator>(line: Line, asked: &Asked<A>) -> Option<Placed> {
     })
 }
 
-/// What lines come to that is known without looking: those that asked in vain, and settings of channels that there aren't, are
-/// added to `idle`; the other settings are answered.
-fn known_of<A: Allocator + Copy>(
+/// Adds the lines that asked in vain.
+fn add_unmet<A: Allocator>(asked: &Asked<A>, idle: &mut Vec<Idle, A>) -> Result<(), AllocError> {
+    for (line, unmet) in &asked.unmet {
+        let cause = Cause::Unmet(*unmet);
+        idle.push(Idle { line: *line, cause })?;
+    }
+    Ok(())
+}
+
+/// The settings of lines, in their order; those of channels that there aren't are added to `idle`.
+fn settings_of<A: Allocator + Copy>(
     alloc: A,
     sites: &Sites<A>,
     lines: &[Line],
@@ -212,12 +221,11 @@ fn known_of<A: Allocator + Copy>(
     idle: &mut Vec<Idle, A>,
 ) -> Result<Vec<Placed, A>, AllocError> {
     let mut settings = Vec::new(alloc);
-    for (line, unmet) in &asked.unmet {
-        let cause = Cause::Unmet(*unmet);
-        idle.push(Idle { line: *line, cause })?;
-    }
+    let mut notes = asked.settings.as_slice();
     for line in lines {
-        match setting_of(*line, asked) {
+        let (noted, others) = noted_first(notes, line.number);
+        notes = others;
+        match setting_of(*line, noted) {
             Some(placed) if has_channel(sites, placed.side, placed.chan()) => {
                 settings.push(placed)?;
             }
@@ -231,7 +239,7 @@ fn known_of<A: Allocator + Copy>(
     Ok(settings)
 }
 
-/// Those of a script's settings without which the same comes, are added to `idle`.
+/// Adds those of a script's settings without which the same comes to what is known to come to nothing.
 fn look_at_all<A: Allocator + Copy>(
     alloc: A,
     sites: Texts<'_>,
@@ -273,7 +281,8 @@ pub fn idle_settings<A: Allocator + Copy>(
     let Some(read) = sites.sites(alloc)? else {
         return Ok(idle);
     };
-    let settings = known_of(alloc, &read, &lines, &asked, &mut idle)?;
+    add_unmet(&asked, &mut idle)?;
+    let settings = settings_of(alloc, &read, &lines, &asked, &mut idle)?;
     if lines.len().saturating_mul(settings.len()) <= MOST_PLAYED {
         idle = look_at_all(alloc, sites, script, &trace, &settings, idle)?;
     }

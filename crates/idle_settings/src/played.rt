@@ -166,12 +166,11 @@ pub(crate) fn trace_of<A: Allocator + Copy>(
     asked: &mut Asked<A>,
 ) -> Result<Option<Vec<u8, A>>, LabFault> {
     let mut trace = Vec::new(alloc);
-    match play_to(alloc, sites, script, lines, &mut trace, asked) {
-        Ok(true) => Ok(Some(trace)),
-        Ok(false) => Ok(None),
-        // what is kept in memory lacks nothing but that
-        Err(LabFault::Write | LabFault::NoMemory) => Err(LabFault::NoMemory),
-    }
+    // what is kept in memory lacks nothing but that
+    let is_run = play_to(alloc, sites, script, lines, &mut trace, asked).map_err(
+        |_| LabFault::NoMemory,
+    )?;
+    Ok(if is_run { Some(trace) } else { None })
 }
 
 /// Whether this comes of the lines of a script.
