@@ -166,10 +166,8 @@ pub(crate) fn trace_of<A: Allocator + Copy>(
     asked: &mut Asked<A>,
 ) -> Result<Option<Vec<u8, A>>, LabFault> {
     let mut trace = Vec::new(alloc);
-    // what is kept in memory lacks nothing but that
-    let is_run = play_to(alloc, sites, script, lines, &mut trace, asked).map_err(
-        |_| LabFault::NoMemory,
-    )?;
+    let ended = play_to(alloc, sites, script, lines, &mut trace, asked);
+    let is_run = ended.map_err(|_| LabFault::NoMemory)?;
     Ok(if is_run { Some(trace) } else { None })
 }
 
