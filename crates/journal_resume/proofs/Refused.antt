@@ -1,5 +1,5 @@
 -- The reasons of refusals, behind one record more.
-use Rattle.std.proofs.Common.{◌≡◌, ◌≢◌, ◌⊎◌, inl, inr, ◌+◌, ◌<◌, ℕ, List, [], ◌∷◌, ◌++◌, length, length-append, take, drop, append_assoc, Result, Ok, Err, IsErrAnd, IfErr, refl, sym, subst, ◌∙◌, ap, arith}
+use Rattle.std.proofs.Common.{◌≡◌, inl, ◌+◌, ◌<◌, ℕ, List, [], ◌∷◌, ◌++◌, length, length-append, take, drop, append_assoc, Result, Ok, Err, IsErrAnd, IfErr, refl, sym, subst, ◌∙◌, ap, arith}
 use Rattle.std.proofs.lemmas.List.{take_at, take-append-drop}
 use Rattle.cell_table.specs.Site.{SiteView}
 use Rattle.radio_book.specs.State.{State, empty_book}
@@ -13,7 +13,7 @@ use Rattle.journal_resume.specs.declared.resuming.ResumeFault.{ResumeFault}
 use Rattle.journal_resume.specs.declared.resuming.ResumeFault.TheVariants as fault
 use Rattle.journal_resume.specs.Heads.{BeginsWithLine}
 use Rattle.journal_resume.specs.Resume.{Numbered, records_text, events_in, AreCounted}
-use Rattle.journal_resume.specs.Refusals.{IsRecordReason, IsNextReason, IsReasonBehind, IsHeadReason, IsReason, BehindFirstLine}
+use Rattle.journal_resume.specs.Refusals.{IsRecordReason, IsNextReason, IsReasonBehind, IsHeadReason, IsReason}
 use Rattle.journal_resume.proofs.Steps.{SoFar, run_on}
 
 -- a text that begins with a line isn't shorter, and has the line in front

@@ -1,4 +1,4 @@
-use Rattle.std.proofs.Common.{◌≡◌, ◌≢◌, ◌<◌, ◌+◌, ◌∙◌, ap, take, length, get_or, arith}
+use Rattle.std.proofs.Common.{◌≡◌, ◌≢◌, ◌<◌, ◌∙◌, ap, take, length, get_or, arith}
 use Rattle.journal_resume.proofs.Zeros.{zero_at, other_at}
 use Rattle.journal_resume.proofs.ends.without_zeros.Goals as goal
 use Rattle.journal_resume.proofs.ends.without_zeros.Goals.{then-octets-place-ne0, else-octets-place-ne0}

@@ -1,4 +1,4 @@
-use Rattle.std.proofs.Common.{◌+◌, ◌≤◌, length, inr, refl, arith}
+use Rattle.std.proofs.Common.{inr, refl, arith}
 use Rattle.journal_resume.proofs.Steps.{read_more, one_more}
 use Rattle.journal_resume.proofs.Refused.{handed_on, record_reason, reason_so_far, counted_length}
 use Rattle.journal_resume.proofs.resuming.follow_records.Goals as goal
