@@ -6,7 +6,7 @@ use channel_fsm::ChanId;
 use lab_runs::asked::Unmet;
 use lab_runs::run::{LabFault, Sites};
 use lab_script::script::Side;
-use std::alloc::{AllocError, Allocator};
+use std::alloc::{AllocError, Allocator, Global};
 
 /// So many lines are played at most to find out what settings come to.
 const MOST_PLAYED: usize = 100_000;
@@ -41,6 +41,15 @@ fn noted_first(
         [(of, noted), behind @ ..] if *of == number => (Some(*noted), behind),
         [..] => (None, notes),
     }
+}
+
+/// What was found of the lines of a script that come to nothing.
+#[derive(Drop)]
+pub struct Found<A: Allocator = Global> {
+    /// They, in their order.
+    pub idle: Vec<Idle, A>,
+    /// Whether it was found out of each setting of the script.
+    pub is_whole: bool,
 }
 
 /// Whether the site of a side has a channel.
@@ -116,30 +125,40 @@ struct Search<'a, A: Allocator + Copy> {
 }
 
 impl<A: Allocator + Copy> Search<'_, A> {
-    /// Whether a setting would come to something, were it not for another: without that it matters whether it is there.
-    fn is_used_without(&self, placed: Placed, other: Placed) -> Result<bool, LabFault> {
-        let alone = without_line(self.alloc, &self.script, other.number)?;
-        let neither = without_line(self.alloc, &alone, placed.number)?;
-        let lines = lines_of(self.alloc, &alone, self.sites.peer.is_some())?;
+    /// The script without the settings that take the place of another, of these behind it; nothing where none does.
+    fn without_others(
+        &self,
+        placed: Placed,
+        behind: &[Placed],
+    ) -> Result<Option<String<A>>, AllocError> {
+        let mut without = None;
+        for other in behind {
+            if placed.is_replaced_by(*other) {
+                let script = without.as_ref().unwrap_or(&self.script);
+                without = Some(without_line(self.alloc, script, other.number)?);
+            }
+        }
+        Ok(without)
+    }
+
+    /// Whether it matters in a script whether the line of a setting is there.
+    fn is_used_in(&self, script: &str, placed: Placed) -> Result<bool, LabFault> {
+        let lines = lines_of(self.alloc, script, self.sites.peer.is_some())?;
         let mut asked = Asked::new(self.alloc);
-        match trace_of(self.alloc, self.sites, &alone, &lines, &mut asked)? {
-            Some(trace) => Ok(!gives_trace(self.alloc, self.sites, &neither, &trace)?),
+        let others = without_line(self.alloc, script, placed.number)?;
+        match trace_of(self.alloc, self.sites, script, &lines, &mut asked)? {
+            Some(trace) => Ok(!gives_trace(self.alloc, self.sites, &others, &trace)?),
             None => Ok(false),
         }
     }
 
-    /// Why a setting comes to nothing, behind which these stand.
+    /// Why a setting comes to nothing, behind which these stand: were it not for those that take its place it would be used, or
+    /// not.
     fn cause_of(&self, placed: Placed, behind: &[Placed]) -> Result<Cause, LabFault> {
-        for other in behind {
-            if placed.is_replaced_by(*other) {
-                return Ok(if self.is_used_without(placed, *other)? {
-                    Cause::Again(placed.chan())
-                } else {
-                    Cause::Unused(placed.chan())
-                });
-            }
+        match self.without_others(placed, behind)? {
+            Some(script) if self.is_used_in(&script, placed)? => Ok(Cause::Again(placed.chan())),
+            Some(_) | None => Ok(Cause::Unused(placed.chan())),
         }
-        Ok(Cause::Unused(placed.chan()))
     }
 
     /// Looks at a setting, behind which these stand.
@@ -260,32 +279,36 @@ fn look_at_all<A: Allocator + Copy>(
     Ok(search.idle)
 }
 
-/// The lines of a script that come to nothing over sites, in their order: settings for a channel that a site lacks; settings
-/// without which the same comes of each line, one after another, until each that is left matters (but for `let` and `arrive`, which
-/// set back, and where more than 100,000 lines would be played for it); lines that ask a controller's book in vain. Nothing is said of a script that can't
-/// be read, nor where a text describes no site.
+/// The lines of a script that come to nothing over sites: settings for a channel that a site lacks; settings without which the same
+/// comes of each line, one after another, until each that is left matters (but for `let` and `arrive`, which set back, and where more
+/// than 100,000 lines would be played for it); lines that ask a controller's book in vain. Nothing is said of a script that can't be
+/// read, nor where a text describes no site.
 pub fn idle_settings<A: Allocator + Copy>(
     alloc: A,
     sites: Texts<'_>,
     script: &str,
-) -> Result<Vec<Idle, A>, LabFault> {
-    let mut idle = Vec::new(alloc);
+) -> Result<Found<A>, LabFault> {
+    let mut found = Found {
+        idle: Vec::new(alloc),
+        is_whole: true,
+    };
     let lines = lines_of(alloc, script, sites.peer.is_some())?;
     if !may_be_idle(&lines) {
-        return Ok(idle);
+        return Ok(found);
     }
     let mut asked = Asked::new(alloc);
     let Some(trace) = trace_of(alloc, sites, script, &lines, &mut asked)? else {
-        return Ok(idle);
+        return Ok(found);
     };
     let Some(read) = sites.sites(alloc)? else {
-        return Ok(idle);
+        return Ok(found);
     };
-    add_unmet(&asked, &mut idle)?;
-    let settings = settings_of(alloc, &read, &lines, &asked, &mut idle)?;
-    if lines.len().saturating_mul(settings.len()) <= MOST_PLAYED {
-        idle = look_at_all(alloc, sites, script, &trace, &settings, idle)?;
+    add_unmet(&asked, &mut found.idle)?;
+    let settings = settings_of(alloc, &read, &lines, &asked, &mut found.idle)?;
+    found.is_whole = lines.len().saturating_mul(settings.len()) <= MOST_PLAYED;
+    if found.is_whole {
+        found.idle = look_at_all(alloc, sites, script, &trace, &settings, found.idle)?;
     }
-    idle.sort_unstable_by_key(|idle| idle.line);
-    Ok(idle)
+    found.idle.sort_unstable_by_key(|idle| idle.line);
+    Ok(found)
 }

@@ -8,5 +8,5 @@ mod found;
 mod lines;
 mod played;
 
-pub use found::{Cause, Idle, idle_settings};
+pub use found::{Cause, Found, Idle, idle_settings};
 pub use played::Texts;

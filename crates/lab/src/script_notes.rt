@@ -102,11 +102,18 @@ pub(crate) fn say_idle_settings<E: Write>(
         first: texts.first(),
         peer: texts.peer(),
     };
-    let idle = idle_settings(alloc, sites, script)?;
-    for setting in &idle {
-        say_idle(path, *setting, errors)?;
+    let found = idle_settings(alloc, sites, script)?;
+    for line in &found.idle {
+        say_idle(path, *line, errors)?;
     }
-    Ok(idle)
+    if !found.is_whole {
+        writeln!(
+            errors,
+            "{}: what settings come to isn't looked at: over 100,000 lines would be played for it",
+            Escaped(path)
+        )?;
+    }
+    Ok(found.idle)
 }
 
 /// Says which comments of a script say that no line is so where none ever can be, and answers them.

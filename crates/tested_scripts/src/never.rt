@@ -299,7 +299,7 @@ fn why_never_behind<'a, A: Allocator + Copy>(
     match before.line {
         None if !before.is_last => Ok(Some(Never::First)),
         Some(line) if is_silent(line) && !before.is_last => Ok(Some(Never::Silent)),
-        Some(_) if without_mark(text).starts_with("end") && !before.is_last => {
+        Some(_) if without_mark(text).starts_with("en") && !before.is_last => {
             Ok(Some(Never::End))
         }
         Some(_) | None if is_limit(text) && !before.has_simulators => {
