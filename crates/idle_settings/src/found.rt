@@ -189,12 +189,10 @@ impl<A: Allocator + Copy> Search<'_, A> {
 
     /// Looks at the settings that add up.
     fn look_backward(&mut self, settings: &[Placed]) -> Result<(), LabFault> {
-        let mut rest = settings;
-        while let [before @ .., placed] = rest {
+        for placed in settings.iter().rev() {
             if order_of(placed.setting.act) == Some(Order::Backward) {
                 self.look_at(*placed, &[])?;
             }
-            rest = before;
         }
         Ok(())
     }
