@@ -130,6 +130,7 @@ Behind the ten thousandth answer (limit_of_answers.t) stands what was dropped.
 
   $ { echo sim; for _ in $(seq 5001); do printf 'hold 0 0 3\nhold 0 0 3\nopen 1 0 0 3\nclear 1\nabis 0 0 0833010b\n'; done; echo let 0 0 3; } >held.txt
   $ ./lab run tests/two_cells/site.toml held.txt --words --chart run.svg | grep '^sim'
+  held.txt: what settings come to isn't looked at: over 100,000 lines would be played for it
   sim limit # what still waited was dropped
   $ grep -c '>sim limit<' run.svg
   1

@@ -7,6 +7,7 @@ Five thousand activations and five thousand releases are handled.
 
   $ held 5000 >held.txt
   $ ./lab run tests/two_cells/site.toml held.txt >trace
+  held.txt: what settings come to isn't looked at: over 100,000 lines would be played for it
   $ grep -c '^in abis 0 0 0822010b080000$' trace
   5000
   $ grep -c '^sim limit$' trace
@@ -19,6 +20,7 @@ Where there is one call more, that is said. The rest doesn't come with the next 
 
   $ (held 5001; echo clear 9) >held.txt
   $ ./lab run tests/two_cells/site.toml held.txt >trace
+  held.txt: what settings come to isn't looked at: over 100,000 lines would be played for it
   $ grep -c '^in abis 0 0 0822010b080000$' trace
   5000
   $ sed -n '/^sim limit$/,$p' trace
@@ -30,6 +32,7 @@ Where there is one call more, that is said. The rest doesn't come with the next 
 The line has no mark of a controller.
 
   $ ./lab run tests/two_controllers/site.toml held.txt --peer tests/two_controllers/peer.toml >trace
+  held.txt: what settings come to isn't looked at: over 100,000 lines would be played for it
   $ grep -c '^1: in abis 0 0 0822010b080000$' trace
   5000
   $ grep -c '^sim limit$' trace
