@@ -6,9 +6,6 @@ ghost use Rattle.std.specs.Prelude.{◌≡◌, ◌<◌, ◌≤◌, ◌↔◌, Is
 use channel_fsm::ChanId;
 use std::marker::Model;
 
-#[cfg(test)]
-mod tests;
-
 /// The timers that guard a handover.
 #[derive(Clone, Copy, Debug, PartialEq, Eq)]
 pub enum Timer {

@@ -1,10 +1,12 @@
 mod audits;
 mod both_tables;
+mod channels;
 mod choices;
 mod courses;
 mod desk;
 mod desk_memory;
 mod foreign;
+mod inverses;
 mod memory;
 mod openings;
 mod owed;

@@ -12,8 +12,6 @@ use std::fmt;
 
 pub mod laws;
 mod mask;
-#[cfg(test)]
-mod tests;
 
 pub use mask::FreeMask;
 pub use timeslots::{Rate, Sub};

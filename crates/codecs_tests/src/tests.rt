@@ -2,7 +2,9 @@
 //! messages that they should be, and how a fault is printed. What the fields of more messages are, `tests/commands` shows.
 mod a;
 mod abis;
+mod bits;
 mod elements;
+mod found;
 mod radio;
 
 use refusing_heap::RefusingHeap;

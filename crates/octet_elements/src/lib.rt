@@ -10,16 +10,12 @@
 #![tactic(auto)]
 
 mod bits;
-#[cfg(test)]
-mod bits_tests;
 mod channel_types;
 mod element;
 mod form;
 mod found;
 mod laws;
 mod octets;
-#[cfg(test)]
-mod tests;
 pub mod values;
 mod write;
 

@@ -38,9 +38,6 @@ ghost use Rattle.refusing_heap.specs.declared.Refusals.TheVariants.{Never, Nth, 
 use std::alloc::{AllocError, Allocator, Global};
 use std::sync::atomic::{AtomicBool, AtomicU64, Ordering};
 
-#[cfg(test)]
-mod tests;
-
 /// The requests that a heap refuses. They are numbered in their order, and the first has the number 1.
 #[derive(Clone, Copy, Debug, PartialEq, Eq)]
 pub enum Refusals {

@@ -2,6 +2,7 @@ mod answers;
 mod beside;
 mod filled;
 mod gathering;
+mod heap;
 mod largest;
 mod memory;
 mod moved;

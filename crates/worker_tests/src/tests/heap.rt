@@ -1,4 +1,4 @@
-use super::{Refusals, RefusingHeap};
+use refusing_heap::{Refusals, RefusingHeap};
 use std::alloc::{AllocError, Allocator, Global};
 use std::process::Abort;
 use std::test::Fail;

@@ -1,7 +1,7 @@
-use super::Inverse::{
+use attempt_journal::Inverse::{
     Disarm, DropReference, Forget, FreeChannel, Rearm, Settle, SwitchOff, Undetect,
 };
-use super::{Inverse, Journal, Timer};
+use attempt_journal::{Inverse, Journal, Timer};
 use channel_fsm::{ChanId, Sub};
 use std::process::Abort;
 

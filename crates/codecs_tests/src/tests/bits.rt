@@ -1,13 +1,6 @@
-use crate::bits::{BitReader, BitWriter};
-use std::fmt::Debug;
-use std::process::Abort;
+use super::equals;
+use octet_elements::{BitReader, BitWriter};
 use std::test::Fail;
-
-/// What was found is what was wanted. An assertion in a function of its own is proved once, and a
-/// call of it costs little.
-fn equals<T: Copy + Debug + PartialEq>(rt: &impl Abort, found: T, wanted: T) {
-    assert_eq!(rt; found, wanted);
-}
 
 /// Fields of 1 to 8 bits, each 1 at both ends, and four bits 0:
 /// 1 11 101 1001 10001 100001 1000001 10000001 0000.

@@ -1,31 +1,13 @@
-use crate::element::leading_element;
-use crate::form::{ElementTable, Form, PLACES};
-use crate::found::Found;
-use crate::octets::Octets;
-use crate::values::{
-    ValueFault, any_octets, octet, octets, optional_octet, optional_octets, u16_be, u16_octets,
-    u16_of,
+use super::{equals, equals_at};
+use octet_elements::values::{
+    any_octets, octet, octets, optional_octet, optional_octets, u16_be, u16_octets, u16_of,
 };
-use crate::write::{append_element, append_octets, element_len};
+use octet_elements::{
+    ElementTable, Form, Found, Octets, PLACES, ValueFault, append_element, append_octets,
+    element_len, leading_element,
+};
 use std::alloc::Global;
-use std::fmt::Debug;
-use std::process::Abort;
 use std::test::Fail;
-
-/// What was found is what was wanted. An assertion in a function of its own is proved once, and a call of it costs little.
-fn equals<T: Copy + Debug + PartialEq>(rt: &impl Abort, found: T, wanted: T) {
-    assert_eq!(rt; found, wanted);
-}
-
-/// What was found at this place is what was wanted.
-fn equals_at<T: Copy + Debug + PartialEq, W: Copy + Debug>(
-    rt: &impl Abort,
-    found: T,
-    wanted: T,
-    at: W,
-) {
-    assert_eq!(rt; found, wanted, "{at:?}");
-}
 
 /// A table with each form: 1 has two octets, 2 stands alone, 3 has a long length, others a length.
 struct Sample;

@@ -1,6 +1,6 @@
-use super::ChanEvent::{Begin, Confirm, Drop, Refuse, Released, Send, SwitchOff, Take};
-use super::ChanState::{Free, Held, Off, On, Pending};
-use super::{ChanEvent, ChanId, ChanState, Sub, conflicts, next};
+use channel_fsm::ChanEvent::{Begin, Confirm, Drop, Refuse, Released, Send, SwitchOff, Take};
+use channel_fsm::ChanState::{Free, Held, Off, On, Pending};
+use channel_fsm::{ChanEvent, ChanId, ChanState, Sub, conflicts, next};
 use std::alloc::Global;
 use std::process::Abort;
 use std::test::Fail;
