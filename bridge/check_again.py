@@ -10,7 +10,7 @@ import threading
 import time
 
 import rsl
-from harness import FIRST, FOLDER, LIMIT, SECOND, SITE, SLOW, Asker, LeftOut, child, is_kind, must
+from harness import FIRST, FOLDER, LIMIT, SECOND, SITE, SLOW, Asker, LeftOut, child, is_kind, must, namespaces, needs
 from network_harness import NOTHING
 from test_controller import record
 
@@ -174,19 +174,29 @@ def really_killed(start, room, program):
 
 
 def needs_journal(room, program):
-    """A check that wants the program's own journal is left out where that has none."""
-    words = [program, "live", SITE, "--journal", room / "probe"]
-    if subprocess.run(words, stdin=subprocess.DEVNULL, capture_output=True, timeout=LIMIT).returncode:
-        raise LeftOut("the program has no journal")
+    """A check that wants the program's own journal is left out where that has none, as its help says. One that has it and fails
+    with it fails the check."""
+    told = ended_well([program, "live", "--help"])
+    if "--journal " not in told:
+        raise LeftOut("the program has no --journal")
+    ended_well([program, "live", SITE, "--journal", room / "probe"])
+
+
+def ended_well(words):
+    """What a command printed that has nothing to read, and ended with status 0."""
+    ran = subprocess.run(words, stdin=subprocess.DEVNULL, capture_output=True, text=True, errors="replace", timeout=LIMIT)
+    must(ran.returncode == 0, f"{' '.join(map(str, words))} ended with status {ran.returncode}: {ran.stderr[-2000:]}")
+    return ran.stdout
 
 
 def kill_often(bridge):
-    """Kills a bridge's controller each time that so many lines more are printed."""
+    """Kills a bridge's controller each time that so many lines more are printed, until it is told to end: it may take its time
+    for that, and is begun no more."""
     chance, count = random.Random(74), 0
-    while bridge.process.poll() is None:
+    while not bridge.process.stdin.closed and bridge.process.poll() is None:
         with bridge.out.changed:
             bridge.out.changed.wait_for(lambda: len(bridge.out.lines) > count, 1)
-        if len(bridge.out.lines) > count:
+        if len(bridge.out.lines) > count and not bridge.process.stdin.closed:
             count = len(bridge.out.lines) + chance.randrange(1, 5)
             with contextlib.suppress(IndexError, ProcessLookupError):
                 os.kill(child(bridge), signal.SIGKILL)
@@ -279,7 +289,7 @@ def a_slow_one(start, room, program):
 def full_disk(start, room, program):
     """The disk of the program's own journal is full: the controller ends, and nothing of what it couldn't note has left. Once there
     is room it goes on, and each line is done once. Where it has ended too often the bridge ends; the next one ends its calls.
-    It needs a namespace of mounts, and is left out where there is none."""
+    It needs a namespace of mounts."""
     needs_journal(room, program)
     with small_disk(room) as disk:
         core = (program, "live", SITE, "--journal", room / "journal")
@@ -341,13 +351,14 @@ class Disk:
 @contextlib.contextmanager
 def small_disk(room):
     """A disk that is small, as long as it is used."""
+    needs("nsenter", "util-linux")
+    words = namespaces("--mount")
     (room / "journal").mkdir()
-    words = ["unshare", "-m"] if os.geteuid() == 0 else ["unshare", "-r", "-m"]
     begin = 'mount -t tmpfs -o size=1m none "$0" && echo there && read line'
     pipe = subprocess.PIPE
     with subprocess.Popen([*words, "sh", "-c", begin, room / "journal"], stdin=pipe, stdout=pipe, stderr=pipe, text=True) as holder:
         if holder.stdout.readline() != "there\n":
-            raise LeftOut("no namespace of mounts is to be had (unshare -m)")
+            raise LeftOut(f"no disk is to be had (mount -t tmpfs: {holder.stderr.readline().strip()})")
         try:
             yield Disk(room, holder)
         finally:

@@ -2,11 +2,10 @@
 examples/ has."""
 import re
 import resource
-import shutil
 import subprocess
 import time
 
-from harness import FIRST, FOLDER, LIMIT, SECOND, Asker, LeftOut, Unmet, must
+from harness import FIRST, FOLDER, LIMIT, SECOND, Asker, Unmet, must, needs
 from network_harness import begin, clear
 from openmetrics import COUNTER, GAUGE, Family, text_of
 
@@ -221,8 +220,7 @@ def services(_start, room, _program):
         must(not lacking, f"{name} doesn't take {lacking}")
         text = text.replace("/opt/gofnild/bridge", str(FOLDER)).replace("=gofnild\n", "=root\n", 2)
         (room / f"gofnild-{name}.service").write_text(text)
-    if not shutil.which("systemd-analyze"):
-        raise LeftOut("there is no systemd-analyze")
+    needs("systemd-analyze", "systemd")
     units = [room / f"gofnild-{name}.service" for name in ("network", "abis")]
     ran = subprocess.run(["systemd-analyze", "verify", "--man=no", *units], capture_output=True, text=True, timeout=LIMIT)
     must(ran.returncode == 0 and "gofnild-" not in ran.stderr, f"{ran.returncode}: {ran.stderr}")

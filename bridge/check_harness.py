@@ -70,7 +70,7 @@ signal.signal(signal.SIGINT, signal.default_int_handler)
 sys.dont_write_bytecode = True
 sys.path.insert(0, {folder!r})
 from demonstration import enter
-if (status := enter("it", ("sleep",), "none", int(sys.argv[1]))) is not None:
+if (status := enter("it", ("unshare", "ip"), "packages util-linux, iproute2", int(sys.argv[1]))) is not None:
     sys.exit(status)
 begun = subprocess.Popen(("sleep", "1000"))
 print("there", flush=True)
@@ -79,8 +79,7 @@ begun.wait()
 
 
 def ends_with_all(_start, room, _program):
-    """A demonstration is killed midway, or takes too long: nothing that it began stays. It needs namespaces, and is left out where
-    there are none."""
+    """A demonstration is killed midway, or takes too long: nothing that it began stays. It needs namespaces."""
     path = room / "demonstration"
     path.write_text(DEMONSTRATION.format(folder=str(FOLDER)))
     for number in (signal.SIGTERM, signal.SIGINT, signal.SIGHUP, signal.SIGKILL):
@@ -104,7 +103,7 @@ def demonstrate(path, seconds, is_awaited=True):
     line = begun.stdout.readline() if is_awaited else "there\n"
     if "left out" in line:
         begun.communicate(timeout=LIMIT)
-        raise LeftOut(line.strip())
+        raise LeftOut(line.strip().removeprefix("it: left out: "))
     must(line == "there\n", f"it says {line!r}")
     return begun
 

@@ -1,8 +1,6 @@
 """Checks of the bridge: links, and what comes on them."""
 import contextlib
-import os
 import select
-import shutil
 import signal
 import socket
 import subprocess
@@ -12,7 +10,7 @@ import time
 
 import ipa
 import rsl
-from harness import CHANNEL, FIRST, FOLDER, LIMIT, SECOND, SITE, SLOW, LeftOut, Unmet, is_kind, measured, must
+from harness import CHANNEL, FIRST, FOLDER, LIMIT, SECOND, SITE, SLOW, Unmet, is_kind, measured, must, namespaces
 from station import TestStation
 
 
@@ -242,12 +240,9 @@ def silent_station(start, _room, _program):
 
 
 def cut_cable(_start, room, program):
-    """A station's cable is cut: that is noticed. It needs a network namespace, and is left out where there is none."""
-    words = ["unshare", "-n"] if os.geteuid() == 0 else ["unshare", "-r", "-n"]
+    """A station's cable is cut: that is noticed. It needs a namespace of networks."""
     script = [sys.executable, str(FOLDER / "cut_cable.py"), str(program), str(room)]
-    if not shutil.which("unshare") or subprocess.run([*words, "true"], capture_output=True).returncode:
-        raise LeftOut("no network namespace is to be had (unshare -n)")
-    ran = subprocess.run([*words, *script], capture_output=True, text=True, timeout=LIMIT)
+    ran = subprocess.run([*namespaces("--net"), *script], capture_output=True, text=True, timeout=LIMIT)
     must(ran.returncode == 0, f"it isn't noticed: {ran.stdout}{ran.stderr}")
     print(ran.stdout, end="")
 

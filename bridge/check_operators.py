@@ -302,7 +302,7 @@ def a_restart(start, room, program):
     must("event open 7 0/0/2 -> done" in ran.stdout and "record 0/0/3 on" in ran.stdout, "run doesn't play it")
 
 
-def full_disk(start, room, _program):
+def full_log(start, room, _program):
     """No half line stays in the log on a full disk, and it goes on once there is room, with all lines."""
     bridge = start("--log", "log")
     bridge.station(FIRST)
@@ -340,5 +340,5 @@ CHECKS = [
     channels,
     the_book,
     a_restart,
-    full_disk,
+    full_log,
 ]

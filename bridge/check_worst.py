@@ -150,7 +150,7 @@ def unread_journal(start, room, program):
 
 def figures_without_room(start, room, program):
     """The disk of the figures is full as the bridge begins: it begins all the same, says so, and writes them once there is room. It
-    needs a namespace of mounts, and is left out where there is none."""
+    needs a namespace of mounts."""
     with small_disk(room) as disk:
         disk.fill()
         figures = room / "journal" / "figures"

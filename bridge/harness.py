@@ -42,7 +42,31 @@ class Unmet(Exception):
 
 
 class LeftOut(Exception):
-    """What a check needs isn't to be had here."""
+    """What a check needs isn't to be had on this machine. From any place of a check
+
+        raise LeftOut("no SCTP is to be had (socket: Protocol not supported)")
+
+    ends it, and it counts as neither met nor not: `bridge/check` names it with this reason and counts it above its last line, and
+    so does the gate, which fails of it with GATE_WHOLE=1. The reason is what was looked for, and the package that has it. `needs`
+    looks for a program, `namespaces` for those. What is there and fails is `Unmet`, and no check returns silently.
+    """
+
+
+def needs(program, package):
+    """Leaves the check out where a program isn't installed, as in needs("cc", "gcc"); `package` is Debian's that has it."""
+    if not shutil.which(program):
+        raise LeftOut(f"there is no {program} (package {package})")
+
+
+def namespaces(*kinds):
+    """The words that run a command in namespaces of its own, as in namespaces("--net"); leaves the check out where a machine
+    gives none."""
+    needs("unshare", "util-linux")
+    words = ["unshare", *kinds] if os.geteuid() == 0 else ["unshare", "--map-root-user", *kinds]
+    tried = subprocess.run([*words, "true"], capture_output=True, text=True, timeout=LIMIT)
+    if tried.returncode:
+        raise LeftOut(f"no namespace is to be had ({' '.join(words)}: {tried.stderr.strip()})")
+    return words
 
 
 class Lines:
