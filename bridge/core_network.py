@@ -5,15 +5,13 @@ which calls are handed over.
 A kernel without SCTP will do: sctp_over_tcp.c is preloaded then, and M3UA between osmo-stp and osmo-msc goes over TCP.
 """
 import os
-import pathlib
 import socket
-import subprocess
 import time
 import typing
 
+import c_programs
 from osmocom import BRIDGE, SECOND_BRIDGE, SETTING_UP, Programs, cell_settings, controller_settings, station_settings
 
-FOLDER = pathlib.Path(__file__).resolve().parent
 # Where osmo-stp is, the bridges' media gateway, and that of osmo-msc and osmo-bsc.
 TRANSFER, GATEWAY, CENTRE_GATEWAY = "127.0.0.5", "127.0.0.6", "127.0.0.1"
 
@@ -177,17 +175,23 @@ def has_sctp():
     return True
 
 
+def build_library(room, *words):
+    """Builds the library by which M3UA goes over TCP, with more words for the compiler; raises OSError where that can't be done."""
+    library = room / "sctp_over_tcp.so"
+    words = ("-shared", "-fPIC", "-ldl", *words)
+    c_programs.build("a kernel without SCTP", library, "sctp_over_tcp.c", words, "libsctp-dev")
+    return library
+
+
+def preloading(library):
+    """The environment in which a library is preloaded."""
+    return os.environ | {"LD_PRELOAD": str(library)}
+
+
 def preloaded(room):
     """The environment in which M3UA goes over TCP, by a library that is built in a folder; None where the kernel has SCTP.
     Raises OSError where it can't be built."""
-    if has_sctp():
-        return None
-    library = room / "sctp_over_tcp.so"
-    words = ["cc", "-shared", "-fPIC", "-O2", "-o", library, FOLDER / "sctp_over_tcp.c", "-ldl"]
-    built = subprocess.run([str(it) for it in words], capture_output=True, text=True)
-    if built.returncode:
-        raise OSError(f"a kernel without SCTP wants libsctp-dev: {built.stderr.strip().splitlines()[0]}")
-    return os.environ | {"LD_PRELOAD": str(library)}
+    return None if has_sctp() else preloading(build_library(room))
 
 
 class CoreNetwork(Programs):

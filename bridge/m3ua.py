@@ -2,17 +2,15 @@
 as it does with its link. To the bridge it is both the link (ipa_client.py) and the connections (connections.py)."""
 import os
 import pathlib
-import shutil
-import subprocess
 import tempfile
 
+import c_programs
 import sccp
 from child import begin
 from connections import Connection, State
 from stream import Lines, Stream
 from tell import say
 
-SOURCE = pathlib.Path(__file__).resolve().parent / "m3ua.c"
 LIBRARIES = ("-losmo-sigtran", "-losmocore", "-ltalloc")
 # Where the program counts from for connections that it is asked for; those that the other side asks for have smaller numbers.
 FIRST = 0x400000
@@ -20,14 +18,10 @@ FIRST = 0x400000
 STANDARD_ERROR = 2
 
 
-def build(folder):
-    """Builds the program; raises OSError where that can't be done."""
-    if not shutil.which("cc"):
-        raise OSError("M3UA wants a C compiler and libosmo-sigtran-dev, and there is no cc")
+def build(folder, *words):
+    """Builds the program, with more words for the compiler; raises OSError where that can't be done."""
     program = pathlib.Path(folder) / "m3ua"
-    built = subprocess.run(["cc", "-O2", "-o", program, SOURCE, *LIBRARIES], capture_output=True, text=True)
-    if built.returncode:
-        raise OSError(f"M3UA wants libosmo-sigtran-dev: {built.stderr.strip().splitlines()[0]}")
+    c_programs.build("M3UA", program, "m3ua.c", (*LIBRARIES, *words), "libosmo-sigtran-dev")
     return program
 
 

@@ -77,14 +77,21 @@ int sctp_send(int file, const void *octets, size_t length, const struct sctp_snd
 	return send(file, octets, length, flags | MSG_NOSIGNAL);
 }
 
-/* Waits until so many octets are there, and looks at them; 0 at the end of the stream. */
+/* Looks at so many octets; how many are there, 0 at the end of the stream. */
+static ssize_t peek(int file, void *into, size_t length)
+{
+	return recv(file, into, length, MSG_PEEK | MSG_DONTWAIT);
+}
+
+/* Waits until so many octets are there, and looks at them; 0 where the stream ends before. */
 static ssize_t look(int file, void *into, size_t length)
 {
-	struct pollfd readable = { .fd = file, .events = POLLIN };
+	struct pollfd ended = { .fd = file, .events = POLLRDHUP };
 	ssize_t came;
 
-	while ((came = recv(file, into, length, MSG_PEEK | MSG_DONTWAIT)) > 0 && (size_t)came < length)
-		poll(&readable, 1, 20);
+	while ((came = peek(file, into, length)) > 0 && (size_t)came < length)
+		if (poll(&ended, 1, 20) > 0)
+			return peek(file, into, length) == (ssize_t)length ? (ssize_t)length : 0;
 	return came;
 }
 
