@@ -6,6 +6,7 @@ import pathlib
 import tomllib
 
 from stations import Station
+from timers import OF_NETWORK, OF_STATIONS
 from toml_keys import Faults, Table, shown
 
 # The carriers (ARFCN) of each band (TS 45.005, clause 2).
@@ -15,37 +16,6 @@ BANDS = {900: (1, 124), 1800: (512, 885)}
 LOUDEST = {900: 5, 1800: 0}
 # A point code as Osmocom writes it: 3, 8 and 3 bits.
 POINT_CODE = r"[0-7]\.([0-9]{1,2}|1[0-9][0-9]|2[0-4][0-9]|25[0-5])\.[0-7]"
-# How long each timer runs, in seconds, where CONFIG doesn't say. T3101 to T3122: TS 44.018, 11.1.2; T4, T7, T8 and T13: TS
-# 48.008, 3.4; `connect`, `release`, `silence` and `alive` are T(conn est), T(rel), T(iar) and T(ias) of SCCP (Q.714, annex C),
-# of which the first is shorter here, since no mobile waits for a minute.
-TIMERS = {
-    "t3101": 3.0,
-    "t3103": 5.0,
-    "t3109": 5.0,
-    "t3111": 0.5,
-    "t3113": 2.0,
-    "t3122": 10.0,
-    "t4": 10.0,
-    "t7": 10.0,
-    "t8": 10.0,
-    "t13": 1.0,
-    "answer": 4.0,
-    "patience": 10.0,
-    "repeat": 10.0,
-    "clear-lost": None,
-    "establish": 7.0,
-    "settle": 2.0,
-    "clearing": 10.0,
-    "retry": 2.0,
-    "connect": 20.0,
-    "release": 10.0,
-    "silence": 900.0,
-    "alive": 300.0,
-    "t10": 5.0,
-    "gateway": 3.0,
-    "gateway-repeat": 0.5,
-    "gateway-audit": 30.0,
-}
 
 
 class ConfigError(Exception):
@@ -268,7 +238,7 @@ def read(path):
         stations_of(top.tables("station"), cells, faults),
         centre_of(top.table("centre")),
         gateway_of(top.table("gateway")),
-        {timer: timers.seconds(timer, seconds) for timer, seconds in TIMERS.items()},
+        {timer: timers.seconds(timer, seconds) for timer, seconds in (OF_STATIONS | OF_NETWORK).items()},
         top.whole("awaited", 1, 1024, 4),
         top.whole("pagings", 1, 100, 4),
         cells,
