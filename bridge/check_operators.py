@@ -279,6 +279,8 @@ def a_restart(start, room, program):
     """A log goes on behind what it has, and what stands behind its last line feed is cut off; it is for the user alone."""
     log = room / "log"
     log.write_text("open 7 0 0 2\nclear 1")
+    # others may read it, as one that another program made
+    log.chmod(0o644)
     bridge = start("--log", "log")
     must(any("no line feed: 7 octets are cut off" in it for it in bridge.said.lines), "it is cut off silently")
     bridge.station(FIRST)
@@ -297,7 +299,8 @@ def a_restart(start, room, program):
     must(re.fullmatch(first, old), f"the log that was moved away:\n{old}")
     then = f"{begins}{time_of_day}{who}\nclear 1\n{time_of_day}\nabis 0 0 0833010b\n"
     must(re.fullmatch(then, new), f"the new log:\n{new}")
-    must(log.stat().st_mode & 0o777 == 0o600, "others may read the log")
+    for name in ("old", "log"):
+        must((room / name).stat().st_mode & 0o777 == 0o600, f"others may read the log {name!r}")
     ran = subprocess.run([program, "run", SITE, room / "old"], capture_output=True, text=True, timeout=LIMIT)
     must("event open 7 0/0/2 -> done" in ran.stdout and "record 0/0/3 on" in ran.stdout, "run doesn't play it")
 
