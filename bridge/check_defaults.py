@@ -1,13 +1,11 @@
 """The checks of timers' defaults: docs/NETWORK.md has a table of them, with osmo-bsc's beside. What the programs take where nobody
 says otherwise is what stands there, and what osmo-bsc says of its own is, too."""
-import os
 import re
 import runpy
-import shutil
 import subprocess
 
 import config
-from harness import FIRST, FOLDER, LIMIT, LeftOut, must
+from harness import FIRST, FOLDER, LIMIT, must, namespaces, needs
 
 TABLE = FOLDER.parent / "docs" / "NETWORK.md"
 # A row of the table: the timer, its default, and osmo-bsc's, each with its name there. What stands for ever, and for none.
@@ -99,12 +97,10 @@ def defaults_of_a_network(start, room, _program):
 
 
 def osmo_bscs_timers(_start, room, _program):
-    """What the table says of osmo-bsc is what it says itself. That is left out where it isn't there, or there is no namespace."""
-    words = ["unshare", "-n"] if os.geteuid() == 0 else ["unshare", "-r", "-n"]
-    if not shutil.which("osmo-bsc"):
-        raise LeftOut("osmo-bsc isn't installed (package osmo-bsc)")
-    if not shutil.which("unshare") or not shutil.which("ip") or subprocess.run([*words, "true"], capture_output=True).returncode:
-        raise LeftOut("no network namespace is to be had (unshare -n, ip)")
+    """What the table says of osmo-bsc is what it says itself. It needs osmo-bsc, and a namespace of networks."""
+    needs("osmo-bsc", "osmo-bsc")
+    needs("ip", "iproute2")
+    words = namespaces("--net")
     (room / "bsc.cfg").write_text(SETTINGS)
     (room / "ask.py").write_text(ASKING.format(folder=str(FOLDER)))
     begin = [*words, "sh", "-c", "ip link set lo up && exec python3 ask.py"]

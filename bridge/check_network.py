@@ -3,11 +3,12 @@ import os
 import pathlib
 import random
 import signal
+import socket
 import subprocess
 import time
 
 import ipa
-from centre import RESET, RESET_ACKNOWLEDGE
+from centre import RESET, RESET_ACKNOWLEDGE, TestCentre
 from harness import FOLDER, LIMIT, SLOW, must
 from network_harness import (
     ACCEPT,
@@ -555,17 +556,27 @@ def lost_centre(start, _room, _program):
 
 
 def no_centre(start, _room, _program):
-    """There is no centre: mobiles are rejected, operators have their calls; it is tried again and again, and comes."""
-    run = start(port=1)
-    station = run.station(FIRST)
-    for _ in range(3):
-        run.said.expect("A: no link to 127.0.0.1, port 1: ECONNREFUSED")
-    burst(station, "050a0d")
-    rejected(station, "050a0d")
-    run.ask("open 1 0 0 1")
-    run.expect("record 0/0/1 on$")
-    run.ask("clear 1")
-    run.expect("^event released 0/0/1 -> done$")
+    """There is no centre: mobiles are rejected, operators have their calls; it is tried again and again, and comes: then a mobile
+    registers."""
+    # a port that is kept from others, and at which nobody listens yet
+    with socket.socket() as taken:
+        taken.setsockopt(socket.SOL_SOCKET, socket.SO_REUSEADDR, 1)
+        taken.bind(("127.0.0.1", 0))
+        port = taken.getsockname()[1]
+        run = start(port=port)
+        station = run.station(FIRST)
+        for _ in range(3):
+            run.said.expect(f"A: no link to 127.0.0.1, port {port}: ECONNREFUSED")
+        burst(station, "050a0d")
+        rejected(station, "050a0d")
+        run.ask("open 1 0 0 1")
+        run.expect("record 0/0/1 on$")
+        run.ask("clear 1")
+        run.expect("^event released 0/0/1 -> done$")
+        run.centre.stop()
+        run.centre = TestCentre(port)
+    run.said.expect("A: the centre is there")
+    clear(run, station, *register(run, station, reference="060a0d"))
     run.end()
 
 
