@@ -3,6 +3,7 @@ import contextlib
 import select
 import signal
 import socket
+import statistics
 import subprocess
 import sys
 import threading
@@ -12,6 +13,10 @@ import ipa
 import rsl
 from harness import CHANNEL, FIRST, FOLDER, LIMIT, SECOND, SITE, SLOW, Unmet, is_kind, measured, must, namespaces
 from station import TestStation
+
+# How many calls show how long one waits alone; and how many seconds calls wait beside links that want much (docs/LIVE.md): the
+# longest, and half of them.
+FEW, LONGEST, USUAL = 9, 3.0, 0.3
 
 
 def torn_frames(start, _room, _program):
@@ -63,7 +68,7 @@ def a_rival(start, _room, _program):
 
 
 def stalled_frames(start, _room, _program):
-    """A station sends half a frame and stalls: its link is closed, and no other."""
+    """A station sends half a frame and stalls, or goes on so slowly that it comes to no end: its link is closed, and no other."""
     bridge = start("--patience", SLOW)
     one, other = bridge.station(FIRST), bridge.station(SECOND, trx=1)
     one.send(b"\x00\x20\x00\x02")
@@ -71,7 +76,18 @@ def stalled_frames(start, _room, _program):
     bridge.said.expect(f"a frame isn't whole after {SLOW} seconds")
     other.say(bytes.fromhex("0822010b"))
     bridge.expect("^in abis 1 1 0822010b$")
-    must(bridge.station(FIRST).is_there, "it can't come back")
+    one = bridge.station(FIRST)
+    # a ping's answer would stand in the middle of a frame
+    one.answers_pings = False
+    one.send((2000).to_bytes(2, "big") + b"\x00")
+    end = time.monotonic() + 5 * SLOW
+    while one.is_there and time.monotonic() < end:
+        with contextlib.suppress(OSError):
+            one.send(b"\x08")
+        time.sleep(0.2)
+    must(not one.is_there, "the link stays as long as octets come")
+    bridge.said.expect(f"a frame isn't whole after {SLOW} seconds")
+    must(bridge.station(FIRST).is_there and other.is_there, "it can't come back, or another is gone")
     bridge.end()
 
 
@@ -303,50 +319,94 @@ def late_answer(start, _room, _program):
 
 
 def a_hundred_strangers(start, _room, _program):
-    """A hundred strangers send empty frames as fast as they can, while calls go on: no answer is late, and little is said."""
+    """A hundred strangers send empty frames as fast as they can, while calls go on: none waits long for its station, and little is
+    said."""
     bridge = start()
     bridge.station(FIRST)
+    alone = [a_call(bridge, 1000 + place) for place in range(FEW)]
     words = [sys.executable, FOLDER / "strangers.py", str(bridge.port), "100", "8"]
     with subprocess.Popen(words, stdout=subprocess.PIPE, text=True) as strangers:
         must(strangers.stdout.readline() == "there\n", "no strangers")
         there = time.monotonic()
-        longest, count = 0.0, 0
+        waits = []
         while strangers.poll() is None:
-            count += 1
-            for line, comes in ((f"open {count} 0 0 3", "record 0/0/3 on$"), (f"clear {count}", "released 0/0/3 -> done$")):
-                begun = time.monotonic()
-                bridge.ask(line)
-                bridge.expect(comes)
-                longest = max(longest, time.monotonic() - begun)
+            waits.append(a_call(bridge, 1 + len(waits)))
         links = strangers.stdout.read().strip()
-    measured(f"beside 100 strangers, {links}, the longest of {count} calls waits", longest, "for its station")
+    measured(f"beside 100 strangers, {links}, the longest of {len(waits)} calls waits", max(waits), "for its station")
     bridge.end()
     must(not any("no answer" in line for line in bridge.said.lines), "a station seemed not to answer")
+    not_longer(waits, alone)
+    must(int(links.split()[0]) >= 200, f"strangers whose link is closed don't come again: {links}")
+    bridge.said.find("a message before it said who it is: stream 00, empty, the link is closed$", 0)
     # of an address a hundred in ten seconds
     most = 200 + 10 * (time.monotonic() - there)
     must(len(bridge.said.lines) < most, f"{len(bridge.said.lines)} lines are said")
+
+
+def a_call(bridge, number, place="0 0 3"):
+    """A call begins and ends; how many seconds it waited for its station, at the longer of both."""
+    channel, longest = place.replace(" ", "/"), 0.0
+    for line, comes in ((f"open {number} {place}", f"record {channel} on$"), (f"clear {number}", f"released {channel} -> done$")):
+        begun = time.monotonic()
+        bridge.ask(line)
+        bridge.expect(comes)
+        longest = max(longest, time.monotonic() - begun)
+    return longest
+
+
+def not_longer(waits, alone):
+    """Calls beside links that want much wait for their station no longer than LIVE says, half of them a good deal less; on a
+    machine where they wait long alone, some times as long as that."""
+    for what, found, most in (("the longest", max, LONGEST), ("the half of all", statistics.median, USUAL)):
+        found, least = found(waits), statistics.median(alone)
+        must(found < most + 10 * least, f"{what} calls wait {found:.2f} seconds for their station, alone {least:.2f}")
+
+
+def stalled_strangers(start, _room, _program):
+    """Strangers send a part of a frame and stall, or go on without end, an octet now and then: each link is closed once there is no
+    patience any more, and calls notice nothing."""
+    bridge = start("--patience", SLOW)
+    station = bridge.station(FIRST)
+    alone = [a_call(bridge, 1000 + place) for place in range(FEW)]
+    begun, waits = time.monotonic(), []
+    # a frame of so many octets that none of them comes to its end
+    part = (2000).to_bytes(2, "big") + bytes([ipa.OWN]) + ipa.IDENTITY
+    strangers = [TestStation(bridge.port, None) for _ in range(60)]
+    for place, stranger in enumerate(strangers):
+        stranger.send(part[: 1 + place % len(part)])
+    while any(it.is_there for it in strangers) and time.monotonic() < begun + 5 * SLOW:
+        waits.append(a_call(bridge, 1 + len(waits)))
+        for stranger in strangers[::2]:
+            with contextlib.suppress(OSError):
+                stranger.send(b"\0")
+        time.sleep(0.2)
+    there = sum(it.is_there for it in strangers)
+    must(there == 0, f"{there} links stay after {time.monotonic() - begun:.0f} seconds")
+    measured("strangers that stall are gone after", time.monotonic() - begun, f"with {SLOW} seconds of patience")
+    measured(f"beside 60 strangers that stall the longest of {len(waits)} calls waits", max(waits), "for its station")
+    must(station.is_there, "the station's link is closed")
+    bridge.end()
+    not_longer(waits, alone)
+    told = sum(f"didn't say who it is in {SLOW} seconds, the link is closed" in line for line in bridge.said.lines)
+    must(told == len(strangers), f"{told} of {len(strangers)} are told to have said nothing")
 
 
 def loud_station(start, _room, _program):
     """A station sends as fast as it can, while calls go on at another: links take turns."""
     bridge = start()
     loud, _ = bridge.station(FIRST), bridge.station(SECOND, trx=1)
+    alone = [a_call(bridge, 1000 + place, "1 1 3") for place in range(FEW)]
     octets = ipa.frame(0, b"") * 500_000 + ipa.frame(0, bytes.fromhex("0822010b"))
     thread = threading.Thread(target=loud.send, args=(octets,))
     thread.start()
-    longest, count = 0.0, 0
+    waits = []
     while not any(line == "in abis 0 0 0822010b" for line in list(bridge.out.lines)):
-        count += 1
-        begun = time.monotonic()
-        bridge.ask(f"open {count} 1 1 3")
-        bridge.expect("record 1/1/3 on$")
-        longest = max(longest, time.monotonic() - begun)
-        bridge.ask(f"clear {count}")
-        bridge.expect("released 1/1/3 -> done$")
+        waits.append(a_call(bridge, 1 + len(waits), "1 1 3"))
     thread.join(LIMIT)
-    measured(f"beside a loud station the longest of {count} calls waits", longest, "for its station")
+    measured(f"beside a loud station the longest of {len(waits)} calls waits", max(waits), "for its station")
     bridge.end()
     must(not any("no answer" in line for line in bridge.said.lines), "a station seemed not to answer")
+    not_longer(waits, alone)
     bridge.said.expect("passed over: empty 500000")
 
 
@@ -405,4 +465,4 @@ CHECKS = [
     unheard_messages,
     other_sites,
 ]
-MEASURING = [a_hundred_strangers, loud_station]
+MEASURING = [a_hundred_strangers, stalled_strangers, loud_station]

@@ -221,7 +221,7 @@ class Asker:
 
 
 def measured(what, seconds, how):
-    """Says how long something took; it hangs on the machine, and so decides nothing."""
+    """Says how long something took; it hangs on the machine."""
     print(f"bridge/check: {what} {seconds:.2f} seconds {how}", flush=True)
 
 
