@@ -325,18 +325,41 @@ A damaged file is none of a trace; a record at the end that was cut is passed ov
   choices -
   same
 
-A file that can't be written ends the controller before anything of the line leaves, or it goes on, as is asked for.
+A file that can't be written ends the controller before anything of the line leaves, or it goes on, as is asked for. 512 octets have room
+for three lines here: the first line (18 octets), the head (67 and 16), and three records (67 and 37 each).
 
-  $ for word in end go-on; do
-  >   for n in $(seq 40); do echo clear $n; done |
-  >     (ulimit -f 1; trap '' XFSZ; ./lab live examples/two_cells.toml --journal s-$word --journal-lost $word 2>&1; echo status $?) | cat >$word
-  > done
-  $ grep -v '^in \|^event ' end
-  s-end: File too large (os error 27); the controller ends
-  status 2
+  $ for n in $(seq 40); do echo clear $n; done >forty; ./lab live examples/two_cells.toml <forty >whole; head -6 whole >three
+  $ (sed 's/.* \(.*\)/in clear \1\nevent look \1 -> refused 1/' forty; echo end channels=0 calls=0 references=0 timers=0) | cmp - whole
+  $ full() { (ulimit -f 1; trap '' XFSZ; ./lab live examples/two_cells.toml --journal s-$1 --journal-lost $2 2>&1; echo status $?) | cat >$1; }
+  $ full go-on go-on <forty
   $ grep -v '^in \|^event ' go-on
   s-go-on: File too large (os error 27); the journal ends, and the controller goes on
   end channels=0 calls=0 references=0 timers=0
   status 2
-  $ grep -c '^in ' go-on
-  40
+  $ grep '^in \|^event \|^end ' go-on | cmp - whole
+  $ mkfifo in3; full one end <in3 & exec 3>in3
+  $ for n in $(seq 40); do
+  >   if grep -q ^status one; then break; fi; echo clear $n >&3
+  >   until grep -q "^event look $n \|^status" one; do sleep 0.1; done
+  > done
+  $ exec 3>&-; wait; cat one
+  in clear 1
+  event look 1 -> refused 1
+  in clear 2
+  event look 2 -> refused 1
+  in clear 3
+  event look 3 -> refused 1
+  s-one: File too large (os error 27); the controller ends
+  status 2
+  $ ./lab live examples/two_cells.toml --journal s-one </dev/null 2>&1 >/dev/null | grep resumed
+  resumed after line 3: channels=0 calls=0
+
+Where all lines are there at once, several are noted at once, and some of them may not have left.
+
+  $ full end end <forty
+  $ grep -v '^in \|^event ' end
+  s-end: File too large (os error 27); the controller ends
+  status 2
+  $ grep '^in \|^event ' end >left; head -n $(wc -l <left) three | cmp - left
+  $ ./lab live examples/two_cells.toml --journal s-end </dev/null 2>&1 >/dev/null | grep resumed
+  resumed after line 3: channels=0 calls=0
