@@ -2,8 +2,7 @@
 use crate::ranges::{Numbers, Ranges};
 use crate::sides::{first_unmarked, is_of_two, side_text};
 use cell_table::Site;
-use lab_runs::listener::Printing;
-use lab_runs::run::{LabFault, Sites, Status, read_sites, refuse_site};
+use lab_runs::run::{Sites, Status, read_sites, refuse_site};
 use radio_book::book::Book;
 use radio_book::event::{Event, Reply};
 use radio_book::rewind::{RewindFault, Rewound, rewind};
@@ -11,6 +10,7 @@ use read_traces::choices::{Texts, choices_of_trace, event_lines};
 use read_traces::reading::{Told, fresh_book, refuse_line, told_entries};
 use read_traces::rewound::is_same;
 use remainders::{Choice, other_choices, print_difference};
+use run_listeners::{LabFault, Printing};
 use std::alloc::{Allocator, Global};
 use std::io::Write;
 use trace_entries::entries::{Entry, first_unreadable};

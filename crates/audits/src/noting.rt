@@ -1,14 +1,11 @@
 //! Where the events of a run stand in what is printed of it.
 use crate::runs::AllBeside;
 use cell_table::SiteFault;
-use ho_procedure::exchange::Outbound;
-use lab_runs::asked::Unmet;
-use lab_runs::listener::Listener;
-use lab_runs::run::LabFault;
-use lab_runs::turn::Turn;
+use exchange::Outbound;
 use lab_script::script::Side;
 use radio_book::book::Book;
 use remainders::AskedLines;
+use run_listeners::{LabFault, Listener, Turn, Unmet};
 use std::alloc::{AllocError, Allocator, Global};
 use std::cell::Cell;
 use std::io;

@@ -1,11 +1,11 @@
 //! What is printed of an audit.
 //!
 //! No clause says what is printed: that is shown by tests.
-use lab_runs::run::LabFault;
 use radio_book::book::Book;
 use radio_book::event::{Event, Reply};
 use radio_desk::audit::Audit;
 use remainders::{Choice, kept_places, other_choices, print_choices, print_difference};
+use run_listeners::LabFault;
 use std::alloc::{Allocator, Global};
 use std::io::{self, Write};
 use trace_text::trace::Mark;

@@ -10,8 +10,7 @@ ghost use Rattle.audits.specs.Traces.{InWholeTrace};
 
 use crate::shown::{Asked, Beside, beside_of, print_audit};
 use cell_table::Site;
-use lab_runs::listener::Printing;
-use lab_runs::run::{LabFault, Status, refuse_site};
+use lab_runs::run::{Status, refuse_site};
 use radio_book::book::Book;
 use radio_book::event::Event;
 use radio_book::run::run;
@@ -21,6 +20,7 @@ use radio_desk::seat::Seat;
 use read_traces::choices::{Texts, choices_of_trace, event_lines};
 use read_traces::reading::{Told, fresh_book, refuse_line, told_entries};
 use remainders::Choice;
+use run_listeners::{LabFault, Printing};
 use std::alloc::{AllocError, Allocator, Global};
 use std::io::Write;
 use trace_entries::entries::{Entry, first_unreadable};

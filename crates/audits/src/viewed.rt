@@ -2,12 +2,14 @@
 use crate::lines::CountedLines;
 use crate::noting::Noting;
 use crate::runs::{AllBeside, Audits, audited_run, print_audits};
-use lab_runs::run::{LabFault, Status};
-use run_views::{Sheets, Viewer, Views};
+use lab_runs::run::Status;
+use run_listeners::LabFault;
+use run_views::{Sheets, Viewer};
 use std::alloc::Global;
 use std::cell::Cell;
 use std::fs::OpenFile;
 use std::io::Write;
+use view_options::Views;
 
 /// A script over a site, or over two where a peer's is given, all as texts, and what is to be seen of its run.
 #[derive(Clone, Copy, Debug, PartialEq, Eq)]

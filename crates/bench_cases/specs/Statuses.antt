@@ -6,8 +6,8 @@ use Rattle.rr_messages.specs.declared.fault.RrFault.{RrFault}
 use Rattle.rr_messages.specs.declared.fault.RrFault.TheVariants as rr
 use Rattle.bssmap_messages.specs.declared.fault.BssmapFault.{BssmapFault}
 use Rattle.bssmap_messages.specs.declared.fault.BssmapFault.TheVariants as bssmap
-use Rattle.ho_procedure.specs.declared.exchange.Fault.{Fault as Stopped}
-use Rattle.ho_procedure.specs.declared.exchange.Fault.TheVariants as stopped
+use Rattle.exchange.specs.declared.Fault.{Fault as Stopped}
+use Rattle.exchange.specs.declared.Fault.TheVariants as stopped
 use Rattle.cell_table.specs.declared.fault.SiteFault.{SiteFault}
 use Rattle.cell_table.specs.declared.fault.SiteFault.TheVariants as site
 use Rattle.bench_cases.specs.declared.fault.Fault.{Fault}

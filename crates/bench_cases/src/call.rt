@@ -3,7 +3,7 @@ use crate::controlled::{Single, controller_of, handle, hear};
 use crate::fault::Fault;
 use crate::life::book_of;
 use crate::varying::Varying;
-use ho_procedure::exchange::{Inbound, Line};
+use exchange::{Inbound, Line};
 use sample_sites::{HOME, THREE_CHANNELS};
 use std::alloc::Global;
 

@@ -2,8 +2,8 @@
 use crate::fault::Fault;
 use crate::varying::octets_sum;
 use channel_fsm::ChanId;
+use exchange::{Inbound, Outbound};
 use ho_procedure::controller::Controller;
-use ho_procedure::exchange::{Inbound, Outbound};
 use ho_procedure::solo::Solo;
 use radio_book::book::Book;
 use radio_desk::desk::Desk;

@@ -6,7 +6,7 @@ use crate::handover::{COMPLETE, DETECTION, RELEASED};
 use crate::life::{CALL, OTHERS, busy_book, chan_at, crowded_book, site_text};
 use crate::varying::Varying;
 use channel_fsm::Rate;
-use ho_procedure::exchange::{Inbound, Line};
+use exchange::{Inbound, Line};
 use std::alloc::{AllocError, Global};
 
 /// The number of the other controller's cell 0 on a site of 64 cells.

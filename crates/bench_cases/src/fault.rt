@@ -4,7 +4,7 @@ ghost use Rattle.bench_cases.specs.Statuses.{status_of};
 
 use bssmap_messages::BssmapFault;
 use cell_table::SiteFault;
-use ho_procedure::exchange::Fault as Stopped;
+use exchange::Fault as Stopped;
 use rr_messages::RrFault;
 use rsl_messages::RslFault;
 use std::alloc::{AllocError, Allocator};

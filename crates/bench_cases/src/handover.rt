@@ -6,7 +6,7 @@ use crate::fault::Fault;
 use crate::life::{CALL, CELLS, OTHERS, busy_book, chan_at, site_text};
 use crate::varying::Varying;
 use channel_fsm::Rate;
-use ho_procedure::exchange::{Inbound, Line};
+use exchange::{Inbound, Line};
 use std::alloc::Global;
 
 /// HANDOVER DETECTION (TS 48.058 clause 8.4.7) of timeslot 1, with access delay 2.

@@ -24,10 +24,10 @@ mod ticking;
 
 use crate::places::Places;
 use crate::ticking::Ticking;
-use lab::Locking;
 use lab::program::perform;
-use lab::run::{LabFault, Status, exit_status};
+use lab::run::{Status, exit_status};
 use lab::storm::{StormJob, Unwatched, storm_asked, storm_file};
+use lab::{LabFault, Locking};
 use screen_text::{Counted, Erasing, Keeping, Progress, Reason};
 use std::env::{self, FillError};
 use std::io::{self, BufWriter, IsTerminal, LineWriter, Read, Write};

@@ -2,9 +2,9 @@
 use Rattle.std.proofs.Common.{◌≡◌, ◌⊎◌, ℕ, inl, inr, List, [], Bool, false, refl, ap, sym, ◌∙◌}
 use Rattle.std.proofs.lemmas.List.{append-nil}
 use Rattle.cell_table.specs.Site.{SiteView}
-use Rattle.ho_procedure.specs.declared.exchange.Inbound.{Inbound}
-use Rattle.ho_procedure.specs.declared.exchange.Link.{Link}
-use Rattle.ho_procedure.specs.declared.exchange.Bad.{Bad}
+use Rattle.exchange.specs.declared.Inbound.{Inbound}
+use Rattle.exchange.specs.declared.Link.{Link}
+use Rattle.exchange.specs.declared.Bad.{Bad}
 use Rattle.ho_procedure.specs.Claims.{Entry, Claim}
 use Rattle.ho_procedure.specs.Sent.{Sent}
 use Rattle.ho_procedure.specs.Windows.{Kept}

@@ -3,7 +3,7 @@ use Rattle.std.proofs.Common.{◌≡◌, ℕ, ◌+◌, List, [], ◌∷◌, ◌+
 use Rattle.std.proofs.lemmas.List.{append-nil, map-append, length-map}
 use Rattle.cell_table.specs.Site.{SiteView}
 use Rattle.radio_desk.specs.Receipts.{Receipt, receipted}
-use Rattle.ho_procedure.specs.declared.exchange.Inbound.{Inbound}
+use Rattle.exchange.specs.declared.Inbound.{Inbound}
 use Rattle.ho_procedure.specs.Claims.{Entry}
 use Rattle.ho_procedure.specs.Sent.{Sent}
 use Rattle.ho_procedure.specs.Plan.{Step, entries_of, messages_of}

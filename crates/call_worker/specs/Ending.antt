@@ -1,7 +1,7 @@
 -- What a closed office says of each worker. Ours, of no standard.
 use Rattle.std.specs.Prelude.{◌≡◌, ℕ, List, ◌++◌}
 use Rattle.radio_desk.specs.Receipts.{IsRising, receipted}
-use Rattle.ho_procedure.specs.declared.exchange.Inbound.{Inbound}
+use Rattle.exchange.specs.declared.Inbound.{Inbound}
 use Rattle.ho_procedure.specs.Sent.{Sent}
 use Rattle.call_worker.specs.declared.posted.WorkerEnd.{WorkerEnd}
 use Rattle.call_worker.specs.States.{WorkerState}

@@ -3,7 +3,7 @@ use Rattle.std.specs.Prelude.{◌≡◌, ℕ, true, List, ◌++◌}
 use Rattle.crossbeam_channel.specs.Claims.{Pass, view}
 use Rattle.cell_table.specs.Site.{SiteView}
 use Rattle.radio_desk.specs.Receipts.{IsRising, receipted}
-use Rattle.ho_procedure.specs.declared.exchange.Inbound.{Inbound}
+use Rattle.exchange.specs.declared.Inbound.{Inbound}
 use Rattle.ho_procedure.specs.Sent.{Sent}
 use Rattle.worker_inbox.specs.declared.rule.Log.{Log}
 use Rattle.call_worker.specs.declared.letter.Letter.{Letter}

@@ -9,11 +9,11 @@ use Rattle.rsl_messages.specs.declared.message.Rsl.{Rsl}
 use Rattle.rsl_messages.specs.declared.fault.RslFault.{RslFault}
 use Rattle.rsl_messages.specs.declared.fault.RslFault.TheVariants.{NotRsl, UnknownType, Missing, BadElement, Torn, TooLong, NoMemory}
 use Rattle.rsl_messages.specs.Texts as abis
-use Rattle.ho_procedure.specs.declared.exchange.Inbound.{Inbound}
-use Rattle.ho_procedure.specs.declared.exchange.Inbound.TheVariants as inbound
-use Rattle.ho_procedure.specs.declared.exchange.Line.{Line}
-use Rattle.ho_procedure.specs.declared.exchange.Line.TheVariants as line
-use Rattle.ho_procedure.specs.Naming.{chan_of}
+use Rattle.exchange.specs.declared.Inbound.{Inbound}
+use Rattle.exchange.specs.declared.Inbound.TheVariants as inbound
+use Rattle.exchange.specs.declared.Line.{Line}
+use Rattle.exchange.specs.declared.Line.TheVariants as line
+use Rattle.exchange.specs.Naming.{chan_of}
 use Rattle.call_worker.specs.declared.fault.GiveFault.{GiveFault}
 use Rattle.call_worker.specs.declared.fault.GiveFault.TheVariants as give
 use Rattle.call_worker.specs.States.{WorkerState, OfficeState, with_input}

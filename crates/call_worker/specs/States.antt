@@ -3,7 +3,7 @@ use Rattle.std.specs.Prelude.{List, [], ◌∷◌, ◌++◌}
 use Rattle.cell_table.specs.Site.{SiteView}
 use Rattle.radio_book.specs.State.{State}
 use Rattle.radio_desk.specs.Receipts.{Receipt}
-use Rattle.ho_procedure.specs.declared.exchange.Inbound.{Inbound}
+use Rattle.exchange.specs.declared.Inbound.{Inbound}
 
 -- a worker: its site, the inputs that it was given, in that order, and its links as they were at the start
 pub record WorkerState (L A : Type 0) : Type 0 where

@@ -5,13 +5,12 @@ ghost use Rattle.rsl_messages.specs.declared.fault.RslFault.{RslFault};
 ghost use Rattle.rsl_messages.specs.declared.fault.RslFault.TheVariants.{NoMemory};
 ghost use Rattle.rsl_messages.specs.declared.message.Rsl.{Rsl};
 ghost use Rattle.rsl_messages.specs.Texts.{IsTextOf, HasFault};
-ghost use Rattle.ho_procedure.specs.Naming.{chan_of};
+ghost use Rattle.exchange.specs.Naming.{chan_of};
 ghost use Rattle.call_worker.specs.Giving.{Tells, owner_or, call_of, IsOwnerNumber, IsNumberOf, IsUnreadableHere};
 
 use crate::fault::GiveFault;
 use channel_fsm::ChanId;
-use ho_procedure::exchange::{Inbound, Line};
-use ho_procedure::naming::chan_of;
+use exchange::{Inbound, Line, chan_of};
 use ho_procedure::shared::Shared;
 use ho_procedure::view::DeskView;
 use radio_book::event::{Event, Reply};

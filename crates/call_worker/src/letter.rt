@@ -4,7 +4,7 @@ ghost use Rattle.crossbeam_channel.specs.Claims.{view, IsSeatAt};
 ghost use Rattle.crossbeam_channel.specs.Ends.{sends_on, receives_on};
 ghost use Rattle.call_worker.specs.Turns.{inputs_of};
 
-use ho_procedure::exchange::Inbound;
+use exchange::Inbound;
 use std::alloc::{Allocator, Global};
 use std::sync::Wait;
 use worker_inbox::{Inbox, InboxPass, Post, post, take};

@@ -3,7 +3,7 @@ ghost use Rattle.std.specs.Prelude.{◌≡◌, ◌∷◌, ◌++◌, [], List, �
 ghost use Rattle.ho_procedure.specs.Sent.{Sent, SendsOctets, sent, all_sent};
 ghost use Rattle.call_worker.specs.Sending.{one_more, Carries};
 
-use ho_procedure::exchange::Outbound;
+use exchange::Outbound;
 use octet_elements::Octets;
 use std::alloc::{AllocError, Allocator};
 

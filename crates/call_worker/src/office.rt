@@ -16,7 +16,7 @@ use crate::gate::Gate;
 use crate::links::Links;
 use crate::posted::{Posted, WorkerEnd};
 use crate::starting::{Ready, prepare, start_all};
-use ho_procedure::exchange::Inbound;
+use exchange::Inbound;
 use ho_procedure::shared::Shared;
 use radio_book::book::Book;
 use radio_desk::desk::Desk;

@@ -14,7 +14,7 @@ use crate::letter::{Letter, send_input, send_last};
 use crate::links::Links;
 use crate::worker::{Finished, Turn, work};
 use cell_table::Site;
-use ho_procedure::exchange::Inbound;
+use exchange::Inbound;
 use ho_procedure::shared::Shared;
 use radio_desk::desk::Desk;
 use radio_desk::seat::Receipt;

@@ -4,7 +4,7 @@
 //! the input that was handled, counted from 1 over all controllers.
 use crate::capture::{Capture, CaptureFault};
 use crate::path::{Path, Side, Way, Wire};
-use ho_procedure::exchange::{Inbound, Outbound};
+use exchange::{Inbound, Outbound};
 use std::alloc::{AllocError, Allocator, Global};
 use trace_text::trace::{Mark, TraceLine};
 

@@ -4,8 +4,8 @@ ghost use Rattle.decoded_lines.specs.Messages.{link_name, IsRrMessage, IsBssmapM
 
 use crate::unused::{print_a_unused, print_abis_unused, print_rr_rest};
 use bssmap_messages::{Bssmap, BssmapFault};
+use exchange::Bad;
 use explanations::LinkName;
-use ho_procedure::exchange::Bad;
 use rr_messages::Rr;
 use rsl_messages::{Rsl, RslFault};
 use screen_text::PrintFault;

@@ -6,9 +6,9 @@ use Rattle.ho_procedure.specs.Claims.{Entry, Claim, UnknownReceipt}
 use Rattle.ho_procedure.specs.Sent.{Sent}
 use Rattle.ho_procedure.specs.declared.work.Work.{Work}
 use Rattle.cell_table.specs.Site.{SiteView}
-use Rattle.ho_procedure.specs.declared.exchange.Inbound.{Inbound}
-use Rattle.ho_procedure.specs.declared.exchange.Link.{Link}
-use Rattle.ho_procedure.specs.declared.exchange.Bad.{Bad}
+use Rattle.exchange.specs.declared.Inbound.{Inbound}
+use Rattle.exchange.specs.declared.Link.{Link}
+use Rattle.exchange.specs.declared.Bad.{Bad}
 use Rattle.ho_procedure.specs.declared.following.Stop.{Stop}
 use Rattle.ho_procedure.specs.declared.following.Stop.TheVariants as stop
 use Rattle.ho_procedure.specs.Plan.{Plan, Ends, Until, At, AtMemory, AtDesk, messages_of}

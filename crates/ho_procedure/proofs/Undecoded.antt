@@ -16,12 +16,12 @@ use Rattle.cell_table.specs.Site.{SiteView}
 use Rattle.rr_elements.specs.MeasResults.{Results}
 use Rattle.ho_procedure.specs.Claims.{Entry, Claim}
 use Rattle.ho_procedure.specs.declared.work.Work.{Work}
-use Rattle.ho_procedure.specs.declared.exchange.Inbound.{Inbound}
-use Rattle.ho_procedure.specs.declared.exchange.Inbound.TheVariants as inbound
-use Rattle.ho_procedure.specs.declared.exchange.Link.{Link}
-use Rattle.ho_procedure.specs.declared.exchange.Link.TheVariants as link
-use Rattle.ho_procedure.specs.declared.exchange.Bad.{Bad}
-use Rattle.ho_procedure.specs.declared.exchange.Bad.TheVariants as bad
+use Rattle.exchange.specs.declared.Inbound.{Inbound}
+use Rattle.exchange.specs.declared.Inbound.TheVariants as inbound
+use Rattle.exchange.specs.declared.Link.{Link}
+use Rattle.exchange.specs.declared.Link.TheVariants as link
+use Rattle.exchange.specs.declared.Bad.{Bad}
+use Rattle.exchange.specs.declared.Bad.TheVariants as bad
 use Rattle.ho_procedure.specs.declared.following.Stop.{Stop}
 use Rattle.ho_procedure.specs.declared.following.Stop.TheVariants as stop
 use Rattle.ho_procedure.specs.Decoding.{text_inside, IsInside, IsFaultOf, IsAbis, IsUnreadableAbis, IsUnreadableA}

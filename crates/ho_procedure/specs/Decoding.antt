@@ -10,10 +10,10 @@ use Rattle.rsl_messages.specs.Texts as abis
 use Rattle.rsl_messages.specs.Values.{main_signalling}
 use Rattle.bssmap_messages.specs.declared.fault.BssmapFault.TheVariants as bssmap_fault
 use Rattle.bssmap_messages.specs.Texts as interface_a
-use Rattle.ho_procedure.specs.declared.exchange.Link.{Link}
-use Rattle.ho_procedure.specs.declared.exchange.Link.TheVariants as link
-use Rattle.ho_procedure.specs.declared.exchange.Bad.{Bad}
-use Rattle.ho_procedure.specs.declared.exchange.Bad.TheVariants as bad
+use Rattle.exchange.specs.declared.Link.{Link}
+use Rattle.exchange.specs.declared.Link.TheVariants as link
+use Rattle.exchange.specs.declared.Bad.{Bad}
+use Rattle.exchange.specs.declared.Bad.TheVariants as bad
 use Rattle.ho_procedure.specs.declared.decoding.Unreadable.{Unreadable}
 use Rattle.ho_procedure.specs.declared.decoding.Unreadable.TheVariants as unreadable
 

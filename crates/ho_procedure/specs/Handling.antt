@@ -9,19 +9,19 @@ use Rattle.rsl_messages.specs.Texts as abis
 use Rattle.bssmap_messages.specs.declared.message.Bssmap.{Bssmap}
 use Rattle.bssmap_messages.specs.Messages as a_messages
 use Rattle.bssmap_messages.specs.Texts as interface_a
-use Rattle.ho_procedure.specs.declared.exchange.Inbound.{Inbound}
-use Rattle.ho_procedure.specs.declared.exchange.Inbound.TheVariants as inbound
-use Rattle.ho_procedure.specs.declared.exchange.Link.{Link}
-use Rattle.ho_procedure.specs.declared.exchange.Bad.{Bad}
-use Rattle.ho_procedure.specs.declared.exchange.Fault.{Fault}
-use Rattle.ho_procedure.specs.declared.exchange.Fault.TheVariants.{Undecoded, NoMemory, Desk}
+use Rattle.exchange.specs.declared.Inbound.{Inbound}
+use Rattle.exchange.specs.declared.Inbound.TheVariants as inbound
+use Rattle.exchange.specs.declared.Link.{Link}
+use Rattle.exchange.specs.declared.Bad.{Bad}
+use Rattle.exchange.specs.declared.Fault.{Fault}
+use Rattle.exchange.specs.declared.Fault.TheVariants.{Undecoded, NoMemory, Desk}
 use Rattle.ho_procedure.specs.Claims.{Entry, Claim}
 use Rattle.ho_procedure.specs.Decoding.{IsAbis, IsUnreadableAbis, IsUnreadableA}
 use Rattle.ho_procedure.specs.Sent.{Sent, all_sent}
 use Rattle.ho_procedure.specs.Windows.{Kept}
 use Rattle.ho_procedure.specs.Going.{last_reports, MayStop}
 use Rattle.ho_procedure.specs.Plan.{Plan, Step, Until, AtMemory, AtDesk, LeadsUntil, ChoicesAt, entries_of, messages_of, reports_after}
-use Rattle.ho_procedure.specs.Naming.{chan_of}
+use Rattle.exchange.specs.Naming.{chan_of}
 use Rattle.ho_procedure.specs.Procedure.{line_plan, expiry_plan, abis_plan, a_plan}
 
 -- The row of an input: of the message that its octets are a text of, of the timer that ran out, or of the operator's line.
@@ -45,13 +45,6 @@ KeepsOctets {A} (inbound.Abis cell trx octets) = (message : Rsl A) × abis.IsTex
 KeepsOctets {A} (inbound.A call octets) = (message : Bssmap A) × interface_a.IsTextOf message octets × a_messages.KeepsList message
 KeepsOctets (inbound.Expiry call timer) = ⊥
 KeepsOctets (inbound.Operator line) = ⊥
-
--- the input has octets, so that a copy of it takes memory
-abbrev pub HoldsOctets : {A : Type 0} → Inbound A → Type 0
-HoldsOctets (inbound.Abis cell trx octets) = octets ≢ []
-HoldsOctets (inbound.A call octets) = octets ≢ []
-HoldsOctets (inbound.Expiry call timer) = ⊥
-HoldsOctets (inbound.Operator line) = ⊥
 
 -- Some steps follow a plan so far: their entries are what the view's log gained, their messages these, and the reports of each
 -- call are those after them. Their choices are what the view says, and so is why they stop.

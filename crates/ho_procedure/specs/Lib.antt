@@ -4,7 +4,6 @@ pub mod Sent
 pub mod Messages
 pub mod Owed
 pub mod Decoding
-pub mod Naming
 pub mod Windows
 pub mod Plan
 pub mod Procedure

@@ -40,8 +40,8 @@ use Rattle.bssmap_messages.specs.declared.message.CellId.{CellId}
 use Rattle.bssmap_messages.specs.declared.message.Bssmap.{Bssmap}
 use Rattle.bssmap_messages.specs.declared.message.Bssmap.TheVariants as bssmap
 use Rattle.ho_procedure.specs.declared.requests.PermittedRates.{PermittedRates}
-use Rattle.ho_procedure.specs.declared.exchange.Line.{Line}
-use Rattle.ho_procedure.specs.declared.exchange.Line.TheVariants as line
+use Rattle.exchange.specs.declared.Line.{Line}
+use Rattle.exchange.specs.declared.Line.TheVariants as line
 use Rattle.ho_procedure.specs.Messages.{is_nameable, activation, target_activation, release, to_mobile, data_request, command_to, channel_release, cell_id_at, clear_request, clear_complete, handover_performed, handover_required, handover_request_ack, handover_detect, handover_complete, handover_failure}
 use Rattle.rr_elements.specs.RrCause.{normal_event, abnormal_release}
 use Rattle.bssmap_messages.specs.Causes.{radio_interface_message_failure, radio_interface_failure, call_control, reversion_to_old_channel, equipment_failure, no_radio_resource_available, ciphering_algorithm_not_supported, invalid_message_contents}

@@ -1,7 +1,7 @@
 -- The messages that a controller sends.
 use Rattle.std.specs.Prelude.{◌≢◌, ℕ, List, [], map}
-use Rattle.ho_procedure.specs.declared.exchange.Outbound.{Outbound}
-use Rattle.ho_procedure.specs.declared.exchange.Outbound.TheVariants as outbound
+use Rattle.exchange.specs.declared.Outbound.{Outbound}
+use Rattle.exchange.specs.declared.Outbound.TheVariants as outbound
 
 -- Octets that are sent on Abis, to a TRX of a cell (TS 48.058), or on A, about a call (TS 48.008).
 pub data Sent : Type 0 where

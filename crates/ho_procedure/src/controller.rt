@@ -7,13 +7,13 @@ ghost use Rattle.ho_procedure.specs.Handling.{StopsBy, IsRow, IsUndecoded, Answe
 ghost use Rattle.ho_procedure.specs.Plan.{Plan, Ends, At};
 ghost use Rattle.ho_procedure.specs.Going.{last_reports};
 
-use crate::exchange::{Bad, Fault, Inbound, Link, Outbound};
 use crate::following::{Stop, follow};
 use crate::outbox::Outbox;
 use crate::view::{DeskView, OwnDesk};
 use crate::windows::Windows;
 use crate::work::Work;
 use cell_table::Site;
+use exchange::{Bad, Fault, Inbound, Link, Outbound};
 use std::alloc::{AllocError, Allocator, Global};
 use std::marker::Model;
 use std::sync::Arc;

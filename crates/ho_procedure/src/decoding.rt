@@ -7,12 +7,12 @@ ghost use Rattle.rsl_messages.specs.Texts as abis;
 ghost use Rattle.bssmap_messages.specs.declared.message.Bssmap.{Bssmap};
 ghost use Rattle.bssmap_messages.specs.Messages.{KeepsList};
 ghost use Rattle.bssmap_messages.specs.Texts as interface_a;
-ghost use Rattle.ho_procedure.specs.declared.exchange.Link.{Link};
-ghost use Rattle.ho_procedure.specs.declared.exchange.Bad.{Bad};
+ghost use Rattle.exchange.specs.declared.Link.{Link};
+ghost use Rattle.exchange.specs.declared.Bad.{Bad};
 ghost use Rattle.ho_procedure.specs.Decoding.{text_inside, IsInside, IsAbis, IsUnreadableAbis, IsUnreadableA, IsUnreadable, IsFaultOf};
 
-use crate::exchange::{Bad, Link};
 use bssmap_messages::{Bssmap, BssmapFault};
+use exchange::{Bad, Link};
 use rr_messages::{Rr, RrFault};
 use rsl_messages::values::MAIN_SIGNALLING;
 use rsl_messages::{Rsl, RslFault};

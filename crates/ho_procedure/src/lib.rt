@@ -6,9 +6,7 @@ mod buffers;
 mod commands;
 pub mod controller;
 mod decoding;
-pub mod exchange;
 mod following;
-pub mod naming;
 mod outbox;
 mod records;
 mod requests;
@@ -20,3 +18,5 @@ mod texts;
 pub mod view;
 mod windows;
 mod work;
+
+pub use exchange::{Bad, Fault, Inbound, Line, Link, Outbound, chan_of};

@@ -4,7 +4,6 @@ ghost use Rattle.ho_procedure.specs.Sent.{all_sent};
 ghost use Rattle.ho_procedure.specs.Messages.{speech, activation, target_activation, release, to_mobile, channel_release, data_request, clear_request, clear_complete, handover_performed, handover_required, handover_request_ack, handover_detect, handover_complete, handover_failure};
 
 use crate::buffers::Buffers;
-use crate::exchange::Outbound;
 use crate::texts::{
     put_a, put_abis, write_a, write_abis, write_data_request, write_request_ack, write_required,
     write_rr,
@@ -12,6 +11,7 @@ use crate::texts::{
 use bssmap_messages::causes::BETTER_CELL;
 use bssmap_messages::{Bssmap, CellId};
 use channel_fsm::{ChanId, Rate};
+use exchange::Outbound;
 use rr_elements::RrCause;
 use rr_messages::Rr;
 use rsl_messages::{ChanBits, Rsl, encode_activation_into};

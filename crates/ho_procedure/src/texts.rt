@@ -9,9 +9,9 @@ ghost use Rattle.bssmap_messages.specs.Messages as a_messages;
 ghost use Rattle.ho_procedure.specs.Sent.{OnAbis, OnA, all_sent};
 ghost use Rattle.ho_procedure.specs.Owed.{IsSpare, longest, longest_rr};
 
-use crate::exchange::Outbound;
 use bssmap_messages::{Bssmap, CellId, encode_request_ack_into, encode_required_into};
 use channel_fsm::ChanId;
+use exchange::Outbound;
 use octet_elements::Octets;
 use rr_messages::Rr;
 use rsl_messages::values::MAIN_SIGNALLING;

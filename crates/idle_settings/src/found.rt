@@ -3,9 +3,9 @@ use crate::lines::{Kind, Line, chan_of, lines_of, without_line};
 use crate::played::{Asked, Texts, gives_trace, trace_of};
 use bts_model::{Act, Habit, Setting};
 use channel_fsm::ChanId;
-use lab_runs::asked::Unmet;
-use lab_runs::run::{LabFault, Sites};
+use lab_runs::run::Sites;
 use lab_script::script::Side;
+use run_listeners::{LabFault, Unmet};
 use std::alloc::{AllocError, Allocator, Global};
 
 /// So many lines are played at most to find out what settings come to.

@@ -1,10 +1,10 @@
 //! The lines of a script that give something.
 use bts_model::Setting;
 use channel_fsm::ChanId;
-use lab_runs::run::LabFault;
 use lab_script::script::{
     Given, Item, ScriptFault, Side, is_blank, is_comment, read_script, without_return,
 };
+use run_listeners::LabFault;
 use std::alloc::{AllocError, Allocator};
 
 /// What a line gives, as far as it counts here.

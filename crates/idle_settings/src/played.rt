@@ -2,11 +2,9 @@
 use crate::lines::{Line, lines_of};
 use bts_model::Setting;
 use cell_table::{Site, SiteFault};
-use lab_runs::asked::Unmet;
-use lab_runs::listener::{Listener, Printing};
-use lab_runs::run::{LabFault, Sites, play, read_sites};
-use lab_runs::turn::Turn;
+use lab_runs::run::{Sites, play, read_sites};
 use radio_book::book::Book;
+use run_listeners::{LabFault, Listener, Printing, Turn, Unmet};
 use std::alloc::{AllocError, Allocator, Global};
 use std::io::{self, ErrorKind, Write};
 use trace_text::trace::Mark;

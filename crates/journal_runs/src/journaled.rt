@@ -1,14 +1,10 @@
 //! A listener that notes what it hears in a journal, and has another listener hear it, too.
 use cell_table::SiteFault;
-use ho_procedure::exchange::Outbound;
+use exchange::Outbound;
 use journal_files::{BeginFault, Journal, Lost, WhenLost};
 use journal_resume::{HeadFault, head_body};
-use lab_runs::asked::Unmet;
-use lab_runs::listener::{Listener, Printing};
-use lab_runs::run::LabFault;
-use lab_runs::turn::Turn;
-use live_runs::LiveListener;
 use radio_book::book::Book;
+use run_listeners::{LabFault, Listener, LiveListener, Printing, Turn, Unmet};
 use screen_text::{Escaped, Reason};
 use std::alloc::{Allocator, Global};
 use std::io::{self, Write};

@@ -4,8 +4,8 @@
 use crate::files::text_of;
 use crate::site_files::say_site;
 use cell_table::Site;
-use lab_runs::listener::Printing;
-use lab_runs::run::{LabFault, Status, refuse_site};
+use lab_runs::run::{Status, refuse_site};
+use run_listeners::{LabFault, Printing};
 use site_text::{print_cells, print_warnings};
 use std::alloc::Global;
 use std::io::Write;

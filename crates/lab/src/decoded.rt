@@ -7,9 +7,10 @@ ghost use Rattle.lab.specs.Decoded.{IsMessageText};
 use crate::faults::lab_result;
 pub use decoded_lines::LinkName;
 use decoded_lines::{Detail, PrintFault, print_or_fault};
-use ho_procedure::exchange::Bad;
-use lab_runs::run::{LabFault, Status};
+use exchange::Bad;
+use lab_runs::run::Status;
 use lab_script::script::is_octets;
+use run_listeners::LabFault;
 use std::alloc::{AllocError, Allocator};
 use std::io::Write;
 

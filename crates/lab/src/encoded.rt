@@ -6,7 +6,8 @@ ghost use Rattle.lab.specs.Encoded.{CanBeWritten};
 
 use crate::decoded::LinkName;
 use encoded_messages::{FieldFault, MessageFault, encode_a, encode_abis, encode_rr};
-use lab_runs::run::{LabFault, Status};
+use lab_runs::run::Status;
+use run_listeners::LabFault;
 use std::alloc::Allocator;
 use std::fmt;
 use std::io::Write;

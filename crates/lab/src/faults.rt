@@ -1,7 +1,7 @@
 //! Why work didn't come to its end, by what didn't.
 ghost use Rattle.std.specs.Prelude.{◌≡◌, Ok, Err, IfOk};
 
-use lab_runs::run::LabFault;
+use run_listeners::LabFault;
 use screen_text::PrintFault;
 
 /// What was printed, or why work didn't come to its end that prints.

@@ -10,15 +10,17 @@ use crate::script_sites::say_other_sites;
 use crate::site_files::{SitePaths, SiteTexts, site_texts};
 use crate::view_paths::{named_twice, refuse_twice};
 use audits::viewed::{AskedRun, audit_viewed};
-use lab_runs::run::{LabFault, Status, lab_run, run_for};
+use lab_runs::run::{Status, lab_run, run_for};
 use lab_words::Ending;
-use run_views::{Viewer, Views, open_sheets};
+use run_listeners::LabFault;
+use run_views::{Viewer, open_sheets};
 use screen_text::{Escaped, Reason};
 use std::alloc::{Allocator, Global};
 use std::fmt;
 use std::fs::File;
 use std::io::{self, Read, Write};
 use std::rt::Files;
+use view_options::Views;
 
 /// The most octets that a file may have: 64 MiB.
 pub const LONGEST_FILE: u64 = 64 << 20;

@@ -2,7 +2,7 @@
 use crate::files::text_of;
 use journal_records::{FileFault, behind_first_line, first_record};
 use journal_resume::{WholeFault, whole_octets};
-use lab_runs::run::LabFault;
+use run_listeners::LabFault;
 use screen_text::Escaped;
 use std::io::Write;
 use std::rt::Files;

@@ -5,10 +5,10 @@ use journal_records::FIRST_LINE;
 use journal_resume::{
     HeadFault, ResumeFault, Resumed, head_body, last_number, resume, tell_sent, whole_octets,
 };
-use lab_runs::run::LabFault;
 use lab_words::JournalWords;
 use live_runs::LiveFault;
 use radio_book::book::Book;
+use run_listeners::LabFault;
 use screen_text::{Escaped, Reason};
 use std::alloc::Global;
 use std::fmt;

@@ -6,8 +6,7 @@
 //! on threads.
 //!
 //! Runs, tests and records of scripts, traces that are read back, and the words of the command line, are crates below, exported
-//! here too, as are the controller's inputs and outputs (`exchange`), the reader of scripts (`script`) and the trace (`trace`,
-//! `bad`).
+//! here too, as are the reader of scripts (`script`) and the trace (`trace`, `bad`).
 #![tactic(auto)]
 
 pub mod check;
@@ -32,12 +31,12 @@ mod undecoded;
 mod view_paths;
 
 pub use audits::traced;
-pub use ho_procedure::exchange;
 pub use journal_files::Locking;
-pub use lab_runs::{controllers, course, listener, noting, run, turn, verdict};
+pub use lab_runs::{controllers, course, noting, run, turn, verdict};
 pub use lab_script::script;
 pub use lab_words as words;
 pub use read_traces::rewound;
+pub use run_listeners::LabFault;
 pub use storm::storm_run;
 pub use tested_scripts::{recorded, tested};
 pub use trace_entries::entries;

@@ -9,18 +9,19 @@ use cell_table::Site;
 use journal_files::Locking;
 use journal_records::checksum;
 use journal_runs::{Held, Journaled};
-use lab_runs::listener::Printing;
-use lab_runs::run::{LabFault, Status, refuse_site};
+use lab_runs::run::{Status, refuse_site};
 use lab_words::JournalWords;
 use live_runs::{LineReader, LiveFault, Rules, live_run};
 use radio_book::book::Book;
-use run_views::{LiveViewer, Views, open_sheets};
+use run_listeners::{LabFault, Printing};
+use run_views::{LiveViewer, open_sheets};
 use screen_text::Reason;
 use std::alloc::{AllocError, Global};
 use std::fs::OpenFile;
 use std::io::{BufRead, BufReader, Read, Write};
 use std::rt::Files;
 use std::sync::Arc;
+use view_options::Views;
 
 /// What is asked of a live run.
 #[derive(Clone, Copy)]

@@ -4,8 +4,8 @@
 //! `script_reasons` says.
 use crate::script_notes::say_bare_returns;
 use crate::site_files::{SitePaths, SiteTexts, say_reasons};
-use lab_runs::run::LabFault;
 use lab_script::script::{ScriptFault, read_script};
+use run_listeners::LabFault;
 use screen_text::Escaped;
 use script_reasons::{Fault, Reason, script_reason};
 use std::alloc::Global;

@@ -6,8 +6,8 @@ use crate::script_sites::{ScriptSites, fault_of, say_other_sites, sites_of_scrip
 use crate::site_files::{SitePaths, SiteTexts, say_reasons, site_texts};
 use expectations::Recording;
 use idle_settings::Idle;
-use lab_runs::listener::Printing;
-use lab_runs::run::{LabFault, Status, refuse_site};
+use lab_runs::run::{Status, refuse_site};
+use run_listeners::{LabFault, Printing};
 use std::alloc::Global;
 use std::io::{self, Write};
 use std::rt::Files;

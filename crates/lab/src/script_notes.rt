@@ -5,8 +5,8 @@
 use crate::site_files::SiteTexts;
 use expectations::{is_slipped, names_no_site};
 use idle_settings::{Cause, Idle, Texts, idle_settings};
-use lab_runs::run::LabFault;
 use lab_script::script::{Side, without_return};
+use run_listeners::LabFault;
 use screen_text::Escaped;
 use std::alloc::Global;
 use std::io::{self, Write};

@@ -1,8 +1,8 @@
 //! The files of the sites of a run.
 use crate::faults::lab_result;
 use crate::files::text_of;
-use lab_runs::run::LabFault;
 pub use lab_words::SitePaths;
+use run_listeners::LabFault;
 use site_text::say_reason;
 use std::alloc::Global;
 use std::io::Write;

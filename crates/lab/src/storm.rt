@@ -9,10 +9,10 @@ ghost use Rattle.lab.specs.Storms.{status_of, storm_text, LeftTrace, Prints};
 
 use crate::files::text_of;
 use crate::site_files::say_site;
-use lab_runs::listener::print_no_site;
-use lab_runs::run::{LabFault, Status};
+use lab_runs::run::Status;
 use lab_runs::verdict::{audit_line, audit_status};
 use lab_words::{Job, StormSize, WordsFault, read_words};
+use run_listeners::{LabFault, print_no_site};
 use screen_text::Escaped;
 use std::alloc::{Allocator, Global};
 use std::io::Write;

@@ -1,13 +1,14 @@
 //! What a trace tells, counted.
 use crate::journal_text::{behind_head, trace_of};
 use attempt_lists::{first_unmarked, is_of_two};
-use lab_runs::run::{LabFault, Status};
+use lab_runs::run::Status;
+use run_listeners::LabFault;
 use run_summaries::{RunSummary, SummaryWords, TraceFault, json_text, summary_of_trace};
-use run_views::SummaryForm;
 use screen_text::Escaped;
 use std::alloc::Global;
 use std::io::Write;
 use std::rt::Files;
+use view_options::SummaryForm;
 
 /// Prints counts.
 fn print_summary<W: Write>(

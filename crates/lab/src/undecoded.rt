@@ -1,8 +1,8 @@
 //! Why octets, or a text that is to write some, are no message, in words.
 use crate::decoded::Decoded;
+use exchange::Bad;
 use explanations::{Question, answer_to};
-use ho_procedure::exchange::Bad;
-use lab_runs::run::LabFault;
+use run_listeners::LabFault;
 use screen_text::Escaped;
 use std::io::Write;
 use trace_text::bad::{NumberedFault, numbered};

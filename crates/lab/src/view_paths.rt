@@ -1,12 +1,13 @@
 //! The files that a run writes to.
 use crate::site_files::SitePaths;
-use lab_runs::run::{LabFault, Status};
-use run_views::Views;
+use lab_runs::run::Status;
+use run_listeners::LabFault;
 use screen_text::Escaped;
 use std::fs;
 use std::io::Write;
 use std::os::unix::fs::MetadataExt;
 use std::rt::Files;
+use view_options::Views;
 
 /// What stands under a path.
 #[derive(Clone, Copy)]

@@ -3,7 +3,7 @@ use Rattle.std.proofs.Common.{◌≡◌, ◌++◌, ◌∷◌, ◌<◌, ℕ, zero
 use Rattle.std.proofs.lemmas.Bool.{and_parts}
 use Rattle.std.proofs.lemmas.Result.{on_ok_weaker}
 use Rattle.cell_table.specs.Site.{SiteView}
-use Rattle.ho_procedure.specs.declared.exchange.Inbound.{Inbound}
+use Rattle.exchange.specs.declared.Inbound.{Inbound}
 use Rattle.lab_script.specs.declared.side.Side.{Side}
 use Rattle.lab_script.specs.declared.side.Side.TheVariants.{First, Peer}
 use Rattle.lab_script.specs.declared.script.Given.{Given}
@@ -12,9 +12,9 @@ use Rattle.lab_script.specs.declared.script.Item.{Item}
 use Rattle.lab_script.specs.Script.{AreThere, is_item_there}
 use Rattle.lab_script.specs.Sides.{is_there, number_of}
 use Rattle.lab_runs.specs.declared.controllers.Controllers.{Controllers}
-use Rattle.lab_runs.specs.declared.turn.Source.{Source}
-use Rattle.lab_runs.specs.declared.turn.Source.TheVariants.{Script}
-use Rattle.lab_runs.specs.declared.turn.Turn.{Turn}
+use Rattle.run_listeners.specs.declared.turn.Source.{Source}
+use Rattle.run_listeners.specs.declared.turn.Source.TheVariants.{Script}
+use Rattle.run_listeners.specs.declared.turn.Turn.{Turn}
 use Rattle.lab_runs.specs.declared.course.Course.{Course}
 use Rattle.lab_runs.specs.declared.course.Run.{Run}
 use Rattle.lab_runs.specs.Turns.{Position, AreTurns, IsTurn, IsTurnOf, Gives, GivesTo, Plays, listed, scripted}

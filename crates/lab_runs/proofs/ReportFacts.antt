@@ -12,11 +12,11 @@ use Rattle.rr_elements.specs.declared.fault.ElementFault.TheVariants.{BadRange}
 use Rattle.rr_elements.specs.declared.measurement.MeasHead.{MeasHead}
 use Rattle.rr_elements.specs.declared.measurement.Ncell.{Ncell}
 use Rattle.rr_elements.specs.MeasResults.{Results, HeadFits, NcellFits, ResultsFit, used_count}
-use Rattle.ho_procedure.specs.declared.exchange.Inbound.{Inbound}
+use Rattle.exchange.specs.declared.Inbound.{Inbound}
 use Rattle.radio_book.specs.State.{State}
 use Rattle.lab_script.specs.declared.asked.Heard.{Heard}
 use Rattle.lab_script.specs.declared.asked.Report.{Report}
-use Rattle.lab_runs.specs.declared.asked.Unmet.{Unmet}
+use Rattle.run_listeners.specs.declared.unmet.Unmet.{Unmet}
 use Rattle.lab_runs.specs.Asked.{IsHeard, AreHeard, Measures, head_of, results_of, reported, IsReport, AreReportsOn, AreReportsAt, AreReportsIf, AreReportsOfAll, AreReportsUpTo, AddsReports, AddsReportsIfOn, is_on}
 
 same_ok : {A E : Type 0} (x y : A) → ◌≡◌ {A = Result A E} (Ok x) (Ok y) → x ≡ y

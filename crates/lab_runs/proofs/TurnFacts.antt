@@ -2,12 +2,12 @@
 use Rattle.std.proofs.Common.{◌≡◌, ◌++◌, ℕ, List, [], drop, length, sym, ap, subst, ◌∙◌, append-nil}
 use Rattle.std.specs.List.{All}
 use Rattle.std.proofs.Math.Seq.{drop-append_seam}
-use Rattle.ho_procedure.specs.declared.exchange.Inbound.{Inbound}
+use Rattle.exchange.specs.declared.Inbound.{Inbound}
 use Rattle.ho_procedure.specs.Claims.{Entry}
 use Rattle.trace_text.specs.declared.trace.Step.{Step}
 use Rattle.lab_runs.specs.declared.noting.Note.{Note}
-use Rattle.lab_runs.specs.declared.turn.Answer.{Answer}
-use Rattle.lab_runs.specs.declared.turn.Answer.TheVariants.{Sent, Undecoded}
+use Rattle.run_listeners.specs.declared.turn.Answer.{Answer}
+use Rattle.run_listeners.specs.declared.turn.Answer.TheVariants.{Sent, Undecoded}
 use Rattle.lab_runs.specs.Notes.{IsTrueNote, AreTrueSteps, with_notes}
 use Rattle.lab_runs.specs.Turns.{Position, Answers, asked_in}
 use Rattle.lab_runs.proofs.StepFacts.{asked_with_notes, true_with_notes}

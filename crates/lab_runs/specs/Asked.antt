@@ -22,8 +22,8 @@ use Rattle.radio_book.specs.declared.event.Reply.{Reply}
 use Rattle.radio_book.specs.Kinds.{is_accepted}
 use Rattle.radio_book.specs.State.{State, state_of, record_of}
 use Rattle.radio_desk.specs.Desk.{DeskState}
-use Rattle.ho_procedure.specs.declared.exchange.Inbound.{Inbound}
-use Rattle.ho_procedure.specs.declared.exchange.Inbound.TheVariants as inbound
+use Rattle.exchange.specs.declared.Inbound.{Inbound}
+use Rattle.exchange.specs.declared.Inbound.TheVariants as inbound
 use Rattle.bts_model.specs.declared.answer.Answer.{Answer}
 use Rattle.bts_model.specs.declared.answer.Answer.TheVariants as answer
 use Rattle.bts_model.specs.Answers.{octets_of}
@@ -34,7 +34,7 @@ use Rattle.lab_script.specs.declared.asked.Whom.{Whom}
 use Rattle.lab_script.specs.declared.asked.Whom.TheVariants as whom
 use Rattle.lab_script.specs.declared.asked.Asked.{Asked}
 use Rattle.lab_script.specs.declared.asked.Asked.TheVariants as asks
-use Rattle.lab_runs.specs.declared.asked.Unmet.{Unmet}
+use Rattle.run_listeners.specs.declared.unmet.Unmet.{Unmet}
 
 -- an entry of a history
 abbrev pub Entry : Type 0

@@ -4,12 +4,12 @@ use Rattle.cell_table.specs.Site.{SiteView}
 use Rattle.cell_table.specs.SiteFile.{described_site}
 use Rattle.radio_book.specs.State.{State, empty_book}
 use Rattle.radio_desk.specs.Desk.{IsAnew}
-use Rattle.ho_procedure.specs.declared.exchange.Inbound.{Inbound}
+use Rattle.exchange.specs.declared.Inbound.{Inbound}
 use Rattle.ho_procedure.specs.Going.{last_reports}
 use Rattle.lab_script.specs.declared.side.Side.{Side}
 use Rattle.lab_script.specs.declared.script.Item.{Item}
 use Rattle.lab_script.specs.Script.{first_unreadable, items_of}
-use Rattle.lab_runs.specs.declared.turn.Turn.{Turn}
+use Rattle.run_listeners.specs.declared.turn.Turn.{Turn}
 use Rattle.lab_runs.specs.declared.controllers.Controllers.{Controllers}
 use Rattle.lab_runs.specs.declared.course.Course.{Course}
 use Rattle.lab_runs.specs.declared.course.Run.{Run}

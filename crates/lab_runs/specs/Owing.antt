@@ -1,10 +1,10 @@
 -- What a controller still owes where memory was refused. Ours, of no standard.
 use Rattle.std.specs.Prelude.{◌≡◌, ◌⊎◌, List, []}
-use Rattle.ho_procedure.specs.declared.exchange.Inbound.{Inbound}
+use Rattle.exchange.specs.declared.Inbound.{Inbound}
 use Rattle.ho_procedure.specs.Sent.{Sent, all_sent}
 use Rattle.ho_procedure.specs.Handling.{StopsForMemory}
-use Rattle.lab_runs.specs.declared.turn.Answer.{Answer}
-use Rattle.lab_runs.specs.declared.turn.Answer.TheVariants as answer
+use Rattle.run_listeners.specs.declared.turn.Answer.{Answer}
+use Rattle.run_listeners.specs.declared.turn.Answer.TheVariants as answer
 use Rattle.lab_runs.specs.declared.turn.TurnFault.{TurnFault}
 use Rattle.lab_runs.specs.declared.turn.TurnFault.TheVariants as fault
 use Rattle.lab_runs.specs.Turns.{Position, history_of, says, Answers}

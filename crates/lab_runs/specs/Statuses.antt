@@ -3,8 +3,8 @@ use Rattle.std.specs.Prelude.{ℕ, Result, Ok, Err, if◌then◌else◌}
 use Rattle.radio_desk.specs.declared.audit.Audit.{Audit}
 use Rattle.lab_runs.specs.declared.run.Status.{Status}
 use Rattle.lab_runs.specs.declared.run.Status.TheVariants as ended
-use Rattle.lab_runs.specs.declared.run.LabFault.{LabFault}
-use Rattle.lab_runs.specs.declared.run.LabFault.TheVariants as stopped
+use Rattle.run_listeners.specs.declared.fault.LabFault.{LabFault}
+use Rattle.run_listeners.specs.declared.fault.LabFault.TheVariants as stopped
 
 -- the status after work that came to its end
 abbrev pub status_of : Status → ℕ

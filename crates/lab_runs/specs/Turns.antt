@@ -5,8 +5,8 @@ use Rattle.cell_table.specs.Site.{SiteView}
 use Rattle.radio_book.specs.Run.{Leads}
 use Rattle.trace_text.specs.declared.trace.Step.{Step}
 use Rattle.trace_text.specs.declared.trace.Step.TheVariants.{Asked, NoneFree}
-use Rattle.ho_procedure.specs.declared.exchange.Inbound.{Inbound}
-use Rattle.ho_procedure.specs.declared.exchange.Link.{Link}
+use Rattle.exchange.specs.declared.Inbound.{Inbound}
+use Rattle.exchange.specs.declared.Link.{Link}
 use Rattle.ho_procedure.specs.Claims.{Entry, Claim, IsTrueAfter}
 use Rattle.ho_procedure.specs.Claims as claim
 use Rattle.ho_procedure.specs.Windows.{Kept}
@@ -19,11 +19,11 @@ use Rattle.lab_script.specs.declared.script.Given.{Given}
 use Rattle.lab_script.specs.declared.script.Given.TheVariants.{Input, Attach, Set, HangUp, Ask, MobileOf}
 use Rattle.lab_script.specs.declared.script.Item.{Item}
 use Rattle.lab_script.specs.Sides.{number_of}
-use Rattle.lab_runs.specs.declared.turn.Source.{Source}
-use Rattle.lab_runs.specs.declared.turn.Source.TheVariants.{Script, Simulator}
-use Rattle.lab_runs.specs.declared.turn.Answer.{Answer}
-use Rattle.lab_runs.specs.declared.turn.Answer.TheVariants.{Sent, Undecoded}
-use Rattle.lab_runs.specs.declared.turn.Turn.{Turn}
+use Rattle.run_listeners.specs.declared.turn.Source.{Source}
+use Rattle.run_listeners.specs.declared.turn.Source.TheVariants.{Script, Simulator}
+use Rattle.run_listeners.specs.declared.turn.Answer.{Answer}
+use Rattle.run_listeners.specs.declared.turn.Answer.TheVariants.{Sent, Undecoded}
+use Rattle.run_listeners.specs.declared.turn.Turn.{Turn}
 use Rattle.radio_book.specs.State.{State}
 use Rattle.lab_runs.specs.Notes.{NotingState, with_notes, AreTrueSteps}
 use Rattle.lab_runs.specs.Asked.{AreAsked}

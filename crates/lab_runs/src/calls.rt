@@ -8,12 +8,13 @@ ghost use Rattle.radio_book.specs.State.{record_of, state_of};
 ghost use Rattle.radio_tables.specs.States.{owner, channel_row};
 ghost use Rattle.lab_runs.specs.Asked as said;
 
-use crate::asked::{Met, Unmet};
+use crate::asked::Met;
 use bts_model::Answer;
 use channel_fsm::ChanId;
 use radio_book::book::Book;
 use radio_book::event::{CallRecord, Event, Reply};
 use radio_desk::desk::Desk;
+use run_listeners::Unmet;
 use std::alloc::{AllocError, Allocator};
 
 /// Does nothing; its contract hands out that channels in use lie on the eight timeslots of a TRX (TS 45.002 clause 4.3.2).

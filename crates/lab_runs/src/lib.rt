@@ -12,7 +12,6 @@ pub mod asked;
 mod calls;
 pub mod controllers;
 pub mod course;
-pub mod listener;
 pub mod noting;
 mod reports;
 pub mod run;

@@ -4,14 +4,15 @@ ghost use Rattle.rr_elements.specs.declared.measurement.Ncell.{Ncell};
 ghost use Rattle.rr_elements.specs.MeasResults.{Results};
 ghost use Rattle.lab_runs.specs.Asked as said;
 
-use crate::asked::{Met, Unmet};
+use crate::asked::Met;
 use cell_table::Site;
 use channel_fsm::ChanId;
-use ho_procedure::exchange::Inbound;
+use exchange::Inbound;
 use lab_script::asked::{Heard, Report};
 use rr_elements::{MeasHead, MeasResults, Ncell};
 use rr_messages::Rr;
 use rsl_messages::{ChanBits, Octets, Rsl};
+use run_listeners::Unmet;
 use std::alloc::{AllocError, Allocator};
 
 /// How a message names a channel.

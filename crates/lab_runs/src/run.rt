@@ -8,13 +8,12 @@ ghost use Rattle.lab_runs.specs.Sites.{views_of, texts_of};
 ghost use Rattle.lab_runs.specs.Statuses.{status_of, status_after, exit_status_of};
 
 use crate::course::{Course, Run};
-use crate::listener::{Listener, Printing};
 use cell_table::{Site, SiteFault};
 use lab_script::script::{Item, ScriptFault, read_script};
+use run_listeners::{LabFault, Listener, Printing};
 use std::alloc::{AllocError, Allocator, Global};
-use std::io::{self, Write};
+use std::io::Write;
 use std::sync::Arc;
-use thiserror::Error;
 
 /// How the work ended.
 #[derive(Clone, Copy, Debug, PartialEq, Eq)]
@@ -27,37 +26,6 @@ pub enum Status {
     /// Something was refused, and what was printed says what: the words, a file, the site, a line of the script or of the
     /// trace, what was to be decoded, or what was to be taken out.
     Refused,
-}
-
-/// Why the work didn't come to its end.
-#[derive(Clone, Copy, Debug, PartialEq, Eq, Error)]
-pub enum LabFault {
-    /// Memory was refused.
-    #[error("memory was refused")]
-    NoMemory,
-    /// A write of the output failed.
-    #[error("the output can't be written")]
-    Write,
-}
-
-impl From<AllocError> for LabFault {
-    ghost use Rattle.lab_runs.specs.declared.run.LabFault.TheVariants.{NoMemory};
-
-    ghost from_gives = { λ _ fault. fault ≡ NoMemory };
-
-    fn from(_: AllocError) -> Self {
-        Self::NoMemory
-    }
-}
-
-impl From<io::Error> for LabFault {
-    ghost use Rattle.lab_runs.specs.declared.run.LabFault.TheVariants.{Write};
-
-    ghost from_gives = { λ _ fault. fault ≡ Write };
-
-    fn from(_: io::Error) -> Self {
-        Self::Write
-    }
 }
 
 /// The status after work that came to its end.

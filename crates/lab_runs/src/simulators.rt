@@ -2,7 +2,7 @@
 use crate::waiting::{Arrival, Waiting};
 use bts_model::{Setting, StationOut, World};
 use cell_table::Site;
-use ho_procedure::exchange::{Inbound, Outbound};
+use exchange::{Inbound, Outbound};
 use lab_script::script::Side;
 use msc_model::{Centre, CentreOut};
 use std::alloc::{AllocError, Allocator, Global};

@@ -1,5 +1,5 @@
 //! Messages of simulators that wait for their controllers.
-use ho_procedure::exchange::Inbound;
+use exchange::Inbound;
 use lab_script::script::Side;
 use std::alloc::{Allocator, Global};
 use std::collections::VecDeque;

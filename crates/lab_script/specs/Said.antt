@@ -9,8 +9,8 @@ use Rattle.bts_model.specs.declared.setting.Habit.{Habit}
 use Rattle.bts_model.specs.declared.setting.Held.TheVariants as held
 use Rattle.bts_model.specs.declared.answer.Answer.{Answer}
 use Rattle.bts_model.specs.Settings.{setting_of}
-use Rattle.ho_procedure.specs.declared.exchange.Line.TheVariants as line
-use Rattle.ho_procedure.specs.declared.exchange.Inbound.TheVariants as inbound
+use Rattle.exchange.specs.declared.Line.TheVariants as line
+use Rattle.exchange.specs.declared.Inbound.TheVariants as inbound
 use Rattle.lab_script.specs.declared.asked.Whom.{Whom}
 use Rattle.lab_script.specs.declared.asked.Report.{Report}
 use Rattle.lab_script.specs.declared.asked.Asked.TheVariants as asked

@@ -10,7 +10,7 @@ use crate::values::{Values, values_of};
 use crate::words::{cut_word, is_on_a, is_on_abis};
 use attempt_journal::Timer;
 use bts_model::{Act, Habit, Held, Setting};
-use ho_procedure::exchange::Line;
+use exchange::Line;
 
 /// What a line says, without its message.
 #[derive(Clone, Copy)]

@@ -15,7 +15,7 @@ pub use crate::side::{Side, cut_side, is_for_peer};
 pub use crate::words::is_octets;
 use crate::words::{a_octets, abis_octets};
 use bts_model::{Habit, Setting};
-use ho_procedure::exchange::Inbound;
+use exchange::Inbound;
 use std::alloc::{AllocError, Allocator, Global};
 use thiserror::Error;
 

@@ -1,7 +1,7 @@
 //! The words of a command line that ask for views of a run.
 use clap::{Arg, ArgAction, ArgMatches, Command, value_parser};
-use run_views::{SummaryForm, Views};
 use std::alloc::{AllocError, Global};
+use view_options::{SummaryForm, Views};
 
 /// How a run ends.
 #[derive(Clone, Copy, Debug, PartialEq, Eq)]

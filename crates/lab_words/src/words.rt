@@ -22,8 +22,8 @@ use clap::{Arg, ArgAction, ArgMatches, Command, Error, value_parser};
 use decoded_lines::{Asked, Detail, LinkName, link_named};
 use expectations::Recording;
 use explanations::Question;
-use run_views::{SummaryForm, Views};
 use std::alloc::{AllocError, Global};
+use view_options::{SummaryForm, Views};
 
 /// What the command line asks for.
 #[derive(Drop)]

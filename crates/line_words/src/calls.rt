@@ -2,7 +2,7 @@
 use crate::content::Content;
 use crate::held::{call_in, states_in};
 use channel_fsm::ChanId;
-use ho_procedure::exchange::{Inbound, Line};
+use exchange::{Inbound, Line};
 use radio_book::book::Book;
 use radio_book::event::{Event, Reply};
 use std::alloc::{AllocError, Allocator, Global};

@@ -2,8 +2,7 @@
 use crate::rowless::rowless_name;
 use bssmap_messages::{Bssmap, BssmapFault};
 use channel_fsm::ChanId;
-use ho_procedure::exchange::{Inbound, Outbound};
-use ho_procedure::naming::chan_of;
+use exchange::{Inbound, Outbound, chan_of};
 use octet_elements::sub_of_type;
 use rsl_messages::{ChanBits, Rsl, RslFault};
 use std::alloc::{AllocError, Allocator, Global};

@@ -5,9 +5,9 @@
 use crate::calls::taken_by;
 use crate::held::{call_in, record_of, state_of, states_in};
 use channel_fsm::{ChanId, ChanState};
-use lab_runs::run::LabFault;
 use radio_book::book::Book;
 use radio_book::event::{Attempt, Event, Reply, Timer};
+use run_listeners::LabFault;
 use std::alloc::{AllocError, Allocator, Global};
 use std::collections::BTreeSet;
 use std::io::{self, Write};

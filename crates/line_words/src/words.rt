@@ -2,8 +2,8 @@
 use crate::causes::{Cause, a_cause, abis_cause, passed_cause, rr_cause};
 use crate::content::Content;
 use bssmap_messages::Bssmap;
+use exchange::{Bad, Inbound};
 use explanations::{Question, answer_to};
-use ho_procedure::exchange::{Bad, Inbound};
 use radio_book::book::Usage;
 use radio_book::event::{Event, Refusal, Reply};
 use rr_messages::Rr;

@@ -7,7 +7,7 @@ use Rattle.decoded_lines.specs.declared.reader.Found.TheVariants as found
 use Rattle.lab_script.specs.Script.{is_sim}
 use Rattle.lab_runs.specs.declared.course.Course.{Course}
 use Rattle.lab_runs.specs.declared.controllers.Controllers.{Controllers}
-use Rattle.lab_runs.specs.declared.turn.Turn.{Turn}
+use Rattle.run_listeners.specs.declared.turn.Turn.{Turn}
 use Rattle.lab_runs.specs.Turns.{Position, is_attach}
 use Rattle.lab_runs.specs.Course.{IsAnewAt, BeginsWith, positions_of, has_peer}
 use Rattle.lab_runs.specs.Course as of_course

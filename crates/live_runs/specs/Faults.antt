@@ -1,6 +1,6 @@
 -- Why lines aren't taken to their end.
-use Rattle.lab_runs.specs.declared.run.LabFault.{LabFault}
-use Rattle.lab_runs.specs.declared.run.LabFault.TheVariants as lab
+use Rattle.run_listeners.specs.declared.fault.LabFault.{LabFault}
+use Rattle.run_listeners.specs.declared.fault.LabFault.TheVariants as lab
 use Rattle.live_runs.specs.declared.fault.LiveFault.{LiveFault}
 use Rattle.live_runs.specs.declared.fault.LiveFault.TheVariants as live
 

@@ -3,7 +3,7 @@ use Rattle.std.specs.Prelude.{◌≡◌, ◌≢◌, ◌⊎◌, ◌++◌, ℕ, Bo
 use Rattle.radio_book.specs.State.{State}
 use Rattle.decoded_lines.specs.Reading.{first_line, behind_line}
 use Rattle.lab_script.specs.declared.script.Item.{Item}
-use Rattle.lab_runs.specs.declared.turn.Turn.{Turn}
+use Rattle.run_listeners.specs.declared.turn.Turn.{Turn}
 use Rattle.lab_runs.specs.Turns.{Position, Plays}
 use Rattle.lab_runs.specs.Course.{IsAnewAt, BeginsWith, positions_of, has_peer, has_simulators}
 use Rattle.live_runs.specs.declared.taking.Live.{Live}

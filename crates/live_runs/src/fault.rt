@@ -1,7 +1,7 @@
 //! Why lines aren't taken to their end.
 ghost use Rattle.std.specs.Prelude.{◌≡◌};
 
-use lab_runs::run::LabFault;
+use run_listeners::LabFault;
 use std::alloc::AllocError;
 use std::io;
 use thiserror::Error;

@@ -9,12 +9,10 @@
 mod fault;
 mod line;
 mod lines;
-mod listener;
 mod taking;
 mod unreadable;
 
 pub use fault::LiveFault;
 pub use lines::{LineReader, Rules, live_run};
-pub use listener::{LiveListener, LivePrinting};
 pub use taking::Live;
 pub use unreadable::{Unreadable, unreadable_of};

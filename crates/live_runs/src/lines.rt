@@ -8,12 +8,12 @@ ghost use Rattle.live_runs.specs.Lines.{items_from, script_line};
 ghost use Rattle.live_runs.specs.Live.{Played, Takes, TakesFirst, TakesAll};
 
 use crate::fault::{LiveFault, unreadable_line};
-use crate::listener::LiveListener;
 use crate::taking::Live;
 use crate::unreadable::{Unreadable, unreadable_of};
 use decoded_lines::{Found, next_line};
 use lab_script::script::{is_sim, without_return};
 use radio_book::book::Book;
+use run_listeners::LiveListener;
 use std::alloc::Allocator;
 use std::io::{self, BufRead, BufReader, Read, Write};
 use std::str;

@@ -8,10 +8,9 @@ ghost use Rattle.live_runs.specs.Live.{Goes, Rests, Takes};
 
 use crate::line::{Said, read_line};
 use lab_runs::course::Course;
-use lab_runs::listener::Listener;
-use lab_runs::run::LabFault;
 use lab_script::script::Item;
 use radio_book::book::Book;
+use run_listeners::{LabFault, Listener};
 use std::alloc::{AllocError, Allocator, Global};
 
 /// A controller that is given its lines one by one, and the simulators around it once a line attached them. What came of a

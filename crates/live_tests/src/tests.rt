@@ -3,7 +3,8 @@
 mod viewed;
 
 use cell_table::Site;
-use live_runs::{LiveFault, LivePrinting, Rules, live_run};
+use live_runs::{LiveFault, Rules, live_run};
+use run_listeners::LivePrinting;
 use radio_book::book::Book;
 use refusing_heap::RefusingHeap;
 use sample_sites::THREE_CHANNELS as SITE;

@@ -6,11 +6,11 @@
 use crate::reading::Told;
 use cell_table::SiteFault;
 use lab_runs::course::Run;
-use lab_runs::listener::Printing;
-use lab_runs::run::{LabFault, play, read_sites};
+use lab_runs::run::{play, read_sites};
 use lab_script::script::{Side, without_return};
 use radio_book::event::Event;
 use remainders::{AskedLines, Choice, choices_in, taken_in};
+use run_listeners::{LabFault, Printing};
 use std::alloc::{AllocError, Allocator, Global};
 use std::io;
 use trace_entries::entries::Entry;

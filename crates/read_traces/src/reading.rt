@@ -5,10 +5,11 @@ ghost use Rattle.radio_book.specs.Run.{run_replies};
 ghost use Rattle.trace_entries.specs.Entries as said;
 
 use cell_table::{Site, SiteFault};
-use lab_runs::run::{LabFault, Status};
+use lab_runs::run::Status;
 use radio_book::book::Book;
 use radio_book::event::{Event, Reply};
 use radio_book::run::run;
+use run_listeners::LabFault;
 use std::alloc::{AllocError, Allocator, Global};
 use std::io::Write;
 use std::sync::Arc;

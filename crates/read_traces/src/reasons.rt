@@ -3,7 +3,7 @@
 //! No clause says what the line holds.
 use crate::reading::foreign_entry;
 use encoded_messages::Shown;
-use lab_runs::run::LabFault;
+use run_listeners::LabFault;
 use screen_text::Escaped;
 use std::alloc::Global;
 use std::io::{self, Write};

@@ -10,13 +10,13 @@ ghost use Rattle.read_traces.specs.Rewound.{AreSameReplies, IsSame, StandsIn, Le
 use crate::choices::{Texts, choices_of_trace, event_lines};
 use crate::reading::{fresh_book, refuse_line, told_entries};
 use cell_table::Site;
-use lab_runs::listener::Printing;
-use lab_runs::run::{LabFault, Status, refuse_site};
+use lab_runs::run::{Status, refuse_site};
 use radio_book::book::Book;
 use radio_book::event::{Event, Reply};
 use radio_book::rewind::{RewindFault, Rewound, rewind};
 use radio_desk::entry::is_same_reply;
 use remainders::{Choice, other_choices, print_choices, print_difference};
+use run_listeners::{LabFault, Printing};
 use std::alloc::{Allocator, Global};
 use std::io::Write;
 use trace_entries::entries::{Entry, first_unreadable};

@@ -1,10 +1,10 @@
 //! What differs without some events.
-use lab_runs::run::LabFault;
 use line_words::StateLines;
 use radio_book::book::Book;
 use radio_book::event::{Event, Reply};
 use radio_book::run::run;
 use radio_desk::entry::is_same_reply;
+use run_listeners::LabFault;
 use std::alloc::{AllocError, Allocator};
 use std::io::Write;
 use std::str;

@@ -1,10 +1,10 @@
 //! The choices of a run, and what is printed of them.
 use crate::choices::Choice;
 use channel_fsm::{ChanId, Rate};
-use ho_procedure::exchange::{Inbound, Line};
-use lab_runs::turn::Turn;
+use exchange::{Inbound, Line};
 use lab_script::script::Side;
 use radio_book::event::Event;
+use run_listeners::Turn;
 use std::alloc::{AllocError, Allocator};
 use std::io::{self, Write};
 use trace_text::trace::{Mark, Step};

@@ -4,8 +4,8 @@ use Rattle.rr_messages.specs.declared.message.Rr.{Rr}
 use Rattle.rr_messages.specs.declared.message.Rr.TheVariants as rr
 use Rattle.rr_messages.specs.declared.fault.RrFault.{RrFault}
 use Rattle.rr_messages.specs.Rr.{IsRrText, HasRrFault}
-use Rattle.ho_procedure.specs.declared.exchange.Line.{Line}
-use Rattle.ho_procedure.specs.declared.exchange.Line.TheVariants as line
+use Rattle.exchange.specs.declared.Line.{Line}
+use Rattle.exchange.specs.declared.Line.TheVariants as line
 use Rattle.rsl_messages.specs.declared.message.Rsl.{Rsl}
 use Rattle.rsl_messages.specs.declared.message.Rsl.TheVariants as rsl
 use Rattle.bssmap_messages.specs.declared.message.Bssmap.{Bssmap}

@@ -3,7 +3,7 @@ ghost use Rattle.std.specs.Prelude.{◌≡◌};
 ghost use Rattle.run_summaries.specs.Causes as said;
 
 use bssmap_messages::Bssmap;
-use ho_procedure::exchange::{Inbound, Line};
+use exchange::{Inbound, Line};
 use line_words::Content;
 use rr_messages::{Rr, decode};
 use rsl_messages::Rsl;

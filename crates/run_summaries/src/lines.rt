@@ -1,7 +1,7 @@
 //! What the lines of a run tell.
 use crate::causes::cause_of;
 use crate::runs::RunSummary;
-use ho_procedure::exchange::Inbound;
+use exchange::Inbound;
 use line_words::Content;
 use run_counts::{Told, asked};
 use std::alloc::{AllocError, Allocator};

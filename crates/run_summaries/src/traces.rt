@@ -5,7 +5,7 @@ ghost use Rattle.std.specs.Prelude.{◌≡◌};
 
 use crate::runs::RunSummary;
 use event_text::reading::read_event;
-use ho_procedure::exchange::{Inbound, Outbound};
+use exchange::{Inbound, Outbound};
 use lab_script::script::{Given, ScriptFault, read_script, without_return};
 use line_words::content_of;
 use run_counts::Told;

@@ -1,11 +1,11 @@
 //! Inputs that come to nothing.
 use cell_table::Site;
 use channel_fsm::ChanState;
-use ho_procedure::exchange::{Inbound, Line};
-use lab_runs::turn::{Answer, Turn};
+use exchange::{Inbound, Line};
 use line_words::Content;
 use radio_book::event::{Event, Reply};
 use rsl_messages::Rsl;
+use run_listeners::{Answer, Turn};
 use std::alloc::Allocator;
 use trace_text::trace::Step;
 

@@ -16,12 +16,10 @@ mod chart_rows;
 mod ignored;
 mod lanes;
 mod live_viewer;
-mod options;
 mod origins;
 mod sheets;
 mod viewer;
 
 pub use live_viewer::LiveViewer;
-pub use options::{SummaryForm, Views};
 pub use sheets::{Sheets, open_sheets};
 pub use viewer::Viewer;

@@ -1,21 +1,17 @@
 //! A listener that views what comes of lines as they come.
-use crate::options::Views;
 use crate::sheets::{Sheet, Sheets, say_left_out};
 use crate::viewer::Viewer;
 use capture::RunCapture;
 use cell_table::SiteFault;
-use ho_procedure::exchange::Outbound;
-use lab_runs::asked::Unmet;
-use lab_runs::listener::Listener;
-use lab_runs::run::LabFault;
-use lab_runs::turn::Turn;
-use live_runs::LiveListener;
+use exchange::Outbound;
 use radio_book::book::Book;
+use run_listeners::{LabFault, Listener, LiveListener, Turn, Unmet};
 use screen_text::{Escaped, Reason};
 use std::alloc::{AllocError, Allocator, Global};
 use std::fs::OpenFile;
 use std::io::{self, Write};
 use trace_text::trace::Mark;
+use view_options::Views;
 
 /// Prints the trace of lines as they come, as [`Viewer`] does that of a run, and writes the capture to its file as it grows. A
 /// capture that can't be written any more ends alone. What the lines tell is counted, and shown where a line asks for it.

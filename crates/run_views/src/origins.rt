@@ -1,6 +1,6 @@
 //! Which line of a script gave an input.
-use lab_runs::turn::Source;
 use lab_script::script::{ScriptFault, read_script};
+use run_listeners::Source;
 use std::alloc::{AllocError, Allocator, Global};
 use std::fmt;
 

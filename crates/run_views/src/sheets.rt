@@ -1,13 +1,13 @@
 //! The files of views.
-use crate::options::Views;
 use crate::viewer::Viewer;
-use lab_runs::run::LabFault;
+use run_listeners::LabFault;
 use screen_text::{Escaped, Reason};
 use std::alloc::Allocator;
 use std::fs::{OpenFile, OpenOptions};
 use std::io::{self, BufWriter, Write};
 use std::os::unix::fs::MetadataExt;
 use std::rt::Files;
+use view_options::Views;
 
 /// A file that is open for writing, with its path.
 #[derive(Drop)]

@@ -1,23 +1,21 @@
 //! A listener that views a run.
 use crate::chart_rows::RunChart;
 use crate::ignored::{is_ignored, is_nowhere, is_out_of_stage};
-use crate::options::{SummaryForm, Views};
 use crate::origins::{Origin, Origins};
 use capture::RunCapture;
 use cell_table::SiteFault;
 use decision_words::Decisions;
-use ho_procedure::exchange::Outbound;
-use lab_runs::listener::{Listener, print_no_site, print_unreadable};
-use lab_runs::run::LabFault;
-use lab_runs::turn::{Answer, Source, Turn};
+use exchange::Outbound;
 use line_words::{
     Calls, Content, StateLines, content_of, print_ignored, print_out_of_stage, print_words,
 };
 use radio_book::book::Book;
+use run_listeners::{Answer, LabFault, Listener, Source, Turn, print_no_site, print_unreadable};
 use run_summaries::{RunSummary, SummaryWords, json_text};
 use std::alloc::{AllocError, Allocator, Global};
 use std::io::{self, Write};
 use trace_text::trace::{Mark, TraceLine, print_sent};
+use view_options::{SummaryForm, Views};
 
 /// Prints the trace of a run, with words, with what was decided and with what the books hold where that is asked for, and
 /// gathers its capture and its chart, and counts what it tells.

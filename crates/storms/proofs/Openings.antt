@@ -11,9 +11,9 @@ use Rattle.radio_book.specs.declared.event.Reply.{Reply}
 use Rattle.radio_book.specs.State.{State}
 use Rattle.radio_desk.specs.Receipts.{Receipt, receipted}
 use Rattle.receipt_check.specs.Gathering.{StandsAt}
-use Rattle.ho_procedure.specs.declared.exchange.Inbound.{Inbound}
-use Rattle.ho_procedure.specs.declared.exchange.Inbound.TheVariants.{Operator}
-use Rattle.ho_procedure.specs.declared.exchange.Line.TheVariants as line
+use Rattle.exchange.specs.declared.Inbound.{Inbound}
+use Rattle.exchange.specs.declared.Inbound.TheVariants.{Operator}
+use Rattle.exchange.specs.declared.Line.TheVariants as line
 use Rattle.ho_procedure.specs.Sent.{Sent}
 use Rattle.ho_procedure.specs.Claims.{Entry}
 use Rattle.ho_procedure.specs.Plan.{Plan, Ends, Readies, ForMessages, Asks, Step, Moves, Leads, entries_in, entries_of}

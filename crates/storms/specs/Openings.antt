@@ -3,9 +3,9 @@ use Rattle.std.specs.Prelude.{◌≡◌, ◌⊎◌, ℕ, List, [], ◌∷◌, Al
 use Rattle.channel_fsm.specs.declared.ChanId.{ChanId}
 use Rattle.radio_book.specs.Run.{Leads}
 use Rattle.radio_desk.specs.Desk.{DeskState}
-use Rattle.ho_procedure.specs.declared.exchange.Inbound.{Inbound}
-use Rattle.ho_procedure.specs.declared.exchange.Inbound.TheVariants.{Operator}
-use Rattle.ho_procedure.specs.declared.exchange.Line.TheVariants as line
+use Rattle.exchange.specs.declared.Inbound.{Inbound}
+use Rattle.exchange.specs.declared.Inbound.TheVariants.{Operator}
+use Rattle.exchange.specs.declared.Line.TheVariants as line
 use Rattle.call_worker.specs.States.{WorkerState, OfficeState}
 use Rattle.storms.specs.declared.trip.Trip.{Trip}
 use Rattle.storms.specs.declared.outcome.Figures.{Figures}

@@ -12,7 +12,7 @@ use crate::tray::Tray;
 use crate::trip::Trip;
 use crate::watch::{Phase, Reached, Watch};
 use call_worker::{Closed, Gate, Office, Point, WorkerEnd};
-use ho_procedure::exchange::{Inbound, Line, Outbound};
+use exchange::{Inbound, Line, Outbound};
 use radio_desk::desk::Desk;
 use std::alloc::{AllocError, Allocator, Global};
 use std::sync::{Arc, Wait};

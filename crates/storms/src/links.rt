@@ -4,7 +4,7 @@ ghost use Rattle.ho_procedure.specs.Sent.{sent};
 
 use crate::tray::Tray;
 use call_worker::{Links, copy_of};
-use ho_procedure::exchange::Outbound;
+use exchange::Outbound;
 use std::alloc::{AllocError, Allocator, Global};
 use std::sync::{Arc, Wait};
 

@@ -2,7 +2,7 @@
 use bts_model::{Act, Habit, Setting, StationOut, World};
 use cell_table::Site;
 use channel_fsm::ChanId;
-use ho_procedure::exchange::{Inbound, Outbound};
+use exchange::{Inbound, Outbound};
 use msc_model::{Centre, CentreOut};
 use std::alloc::{AllocError, Allocator, Global};
 use std::sync::Arc;

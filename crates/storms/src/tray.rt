@@ -2,7 +2,7 @@
 ghost use Rattle.std.specs.Prelude.{◌≡◌, ◌↔◌, ◌<◌, ◌∷◌, ◌++◌, [], IsTrue, MatchOption, OnOk, OnErr};
 ghost use Rattle.call_worker.specs.Sending.{one_more};
 
-use ho_procedure::exchange::Outbound;
+use exchange::Outbound;
 use std::alloc::{AllocError, Allocator, Global};
 use std::collections::VecDeque;
 use std::sync::{Condvar, Mutex, Wait};

@@ -6,7 +6,7 @@ ghost use Rattle.tested_scripts.specs.Tests.{printed_lines};
 
 use crate::compare::CameLine;
 use crate::lines::lines_of;
-use lab_runs::run::LabFault;
+use run_listeners::LabFault;
 use std::alloc::{AllocError, Allocator};
 
 /// The lines of what a run printed.

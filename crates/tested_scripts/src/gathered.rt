@@ -3,13 +3,11 @@
 //! No clause says what is printed: that is shown by tests.
 use crate::heard::Came;
 use cell_table::{Site, SiteFault};
-use ho_procedure::exchange::{Inbound, Outbound};
+use exchange::{Inbound, Outbound};
 use lab_runs::course::Course;
-use lab_runs::listener::{Listener, Printing};
-use lab_runs::run::LabFault;
-use lab_runs::turn::{Answer, Turn};
 use line_words::{StateLines, content_of, print_words};
 use radio_book::book::Book;
+use run_listeners::{Answer, LabFault, Listener, Printing, Turn};
 use std::alloc::Allocator;
 use std::io::{self, Write};
 use std::str;

@@ -8,8 +8,9 @@ ghost use Rattle.lab_runs.specs.Sites.{views_of};
 
 use crate::gathered::Gathered;
 use lab_runs::course::Course;
-use lab_runs::run::{LabFault, Sites, fresh_course};
+use lab_runs::run::{Sites, fresh_course};
 use lab_script::script::Item;
+use run_listeners::LabFault;
 use std::alloc::Allocator;
 
 /// What came of a part of a script, as texts: the lines of the trace; for each of them the same with its message in words, or

@@ -10,7 +10,7 @@ use crate::came::printed_lines;
 use crate::compare::CameLine;
 use crate::printed::{Miss, print_reason};
 use expectations::{Answered, answer_to, held_in, is_answered, is_refused_by, refused_in};
-use lab_runs::run::LabFault;
+use run_listeners::LabFault;
 use std::alloc::Allocator;
 use std::io::Write;
 

@@ -5,8 +5,8 @@ use encoded_messages::{
     A_FORMS, ABIS_FORMS, Allowed, FieldFault, FieldForm, MessageFault, MessageForm, RR_FORMS,
     name_and_fields, value,
 };
+use exchange::Inbound;
 use explanations::{LinkName, cause_name};
-use ho_procedure::exchange::Inbound;
 use line_words::{Content, content_of};
 use octet_elements::Octets;
 use std::alloc::{AllocError, Allocator};

@@ -11,9 +11,9 @@ use crate::heard::{Came, PartListener, run_heard};
 use crate::lines::{expected_in, is_input, is_script_line};
 use crate::printed::{ending_of, print_recorded};
 use expectations::{Recording, held_in, print_expected};
-use lab_runs::listener::Printing;
-use lab_runs::run::{LabFault, Sites, Status, read_sites, refuse_site, script_items};
+use lab_runs::run::{Sites, Status, read_sites, refuse_site, script_items};
 use lab_script::script::without_return;
+use run_listeners::{LabFault, Printing};
 use std::alloc::{AllocError, Allocator, Global};
 use std::io::{self, Write};
 

@@ -16,9 +16,9 @@ use crate::heard::{Came, PartListener, run_heard};
 use crate::lines::{expected_in, is_any, lines_of, part_end, says_something};
 use crate::misses::{expect_held, has_broken, holds_all, print_all_unheld, print_broken};
 use crate::printed::{Miss, print_met, print_miss, print_not_met, print_reason};
-use lab_runs::listener::Printing;
-use lab_runs::run::{LabFault, Sites, Status, read_sites, refuse_site};
+use lab_runs::run::{Sites, Status, read_sites, refuse_site};
 use lab_script::script::{ScriptFault, read_script};
+use run_listeners::{LabFault, Printing};
 use std::alloc::{Allocator, Global};
 use std::io::Write;
 

@@ -1,7 +1,7 @@
 //! Why octets are no message, as it is printed.
 use bssmap_messages::BssmapFault;
+use exchange::Bad;
 use explanations::LinkName;
-use ho_procedure::exchange::Bad;
 use rr_elements::ElementFault;
 use rr_messages::RrFault;
 use rsl_messages::RslFault;

@@ -5,7 +5,7 @@ use crate::bad::BadText;
 use crate::text::HexText;
 use channel_fsm::{ChanId, Rate, Sub};
 use event_text::writing::EventText;
-use ho_procedure::exchange::{Bad, Inbound, Line, Outbound};
+use exchange::{Bad, Inbound, Line, Outbound};
 use radio_book::book::Usage;
 use radio_book::event::{Event, Reply, Timer};
 use std::alloc::{Allocator, Global};

@@ -1,9 +1,7 @@
 //! Listeners that hear few things.
 use cell_table::SiteFault;
-use lab_runs::listener::Listener;
-use lab_runs::run::LabFault;
-use lab_runs::turn::Turn;
 use radio_book::book::Book;
+use run_listeners::{LabFault, Listener, Turn};
 use std::alloc::{AllocError, Allocator};
 use std::io;
 use trace_text::trace::Mark;

@@ -1,10 +1,11 @@
 //! A run in which an operator takes an attempt back.
 use crate::deaf::Deaf;
-use ho_procedure::exchange::{Inbound, Line};
+use exchange::{Inbound, Line};
 use lab_runs::course::{Course, MOST_ANSWERS, Run, drop_rest};
-use lab_runs::run::{LabFault, Sites, fresh_course, script_items};
+use lab_runs::run::{Sites, fresh_course, script_items};
 use lab_runs::waiting::Waiting;
 use lab_script::script::{Given, Item, Side};
+use run_listeners::LabFault;
 use std::alloc::Allocator;
 use std::collections::VecDeque;
 

@@ -1,8 +1,8 @@
 //! The points of a run at which attempts are open.
 use crate::interrupted::Interruption;
-use lab_runs::turn::{Source, Turn};
 use lab_script::script::Side;
 use radio_book::event::{Event, Reply};
+use run_listeners::{Source, Turn};
 use std::alloc::{AllocError, Allocator, Global};
 use trace_text::trace::Step;
 

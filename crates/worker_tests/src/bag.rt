@@ -4,7 +4,7 @@ ghost use Rattle.ho_procedure.specs.Sent.{sent, all_sent};
 ghost use Rattle.call_worker.specs.Sending.{one_more};
 
 use call_worker::{Links, copy_of};
-use ho_procedure::exchange::Outbound;
+use exchange::Outbound;
 use std::alloc::{AllocError, Allocator};
 use std::sync::{Arc, Condvar, Mutex, Wait};
 

@@ -2,7 +2,7 @@ use super::equals_at;
 use super::failing::Failing;
 use lab::decoded::LinkName;
 use lab::encoded::encode_run;
-use lab::run::LabFault;
+use lab::LabFault;
 use refusing_heap::RefusingHeap;
 
 /// A message in words.

@@ -1,7 +1,7 @@
 use super::equals_at;
 use super::failing::Failing;
 use lab::program::perform;
-use lab::run::LabFault;
+use lab::LabFault;
 
 /// What stands on standard input.
 const STDIN: &[u8] = b"";

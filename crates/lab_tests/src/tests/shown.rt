@@ -1,9 +1,11 @@
 //! A run is printed with words, and with what was decided, where memory is refused. What is printed then `views.t` and
 //! `decisions.t` of `tests/commands` show.
 use super::{SITE, holds_at, is_whole_or_cut};
-use lab::run::{LabFault, Status, run_for};
+use lab::run::{Status, run_for};
+use lab::LabFault;
 use refusing_heap::RefusingHeap;
-use run_views::{Viewer, Views};
+use run_views::Viewer;
+use view_options::Views;
 use std::alloc::{Allocator, Global};
 use std::io::Write;
 use std::process::Abort;

@@ -1,6 +1,7 @@
 use super::failing::Failing;
 use super::{equals_at, holds_at, remove_files, write_files};
-use lab::run::{LabFault, Status};
+use lab::run::Status;
+use lab::LabFault;
 use lab::storm::{Reached, StormJob, Watch, print_figures, storm_file};
 use lab::storm_run;
 use lab::words::StormSize;

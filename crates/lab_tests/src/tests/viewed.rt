@@ -2,10 +2,10 @@
 use super::failing::Failing;
 use super::{ONE_CALL, SITE, equals_at, holds_at, remove_files, write_files};
 use lab::files::run_files;
-use lab::run::LabFault;
+use lab::LabFault;
 use lab::site_files::SitePaths;
 use lab::words::Ending;
-use run_views::Views;
+use view_options::Views;
 use std::fs;
 use std::process::Abort;
 use std::rt::Files;

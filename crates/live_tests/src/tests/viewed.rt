@@ -1,13 +1,13 @@
 //! What is printed with words and with what the book holds, where memory is refused: what the controller owes of a line is
 //! printed as in a trace without views.
 use super::{RULES, common_lines, fresh_book, holds};
-use ho_procedure::exchange::Outbound;
-use lab_runs::listener::Listener;
-use lab_runs::run::LabFault;
+use exchange::Outbound;
+use run_listeners::{LabFault, Listener};
 use live_runs::{LiveFault, live_run};
 use octet_elements::Octets;
 use refusing_heap::RefusingHeap;
-use run_views::{LiveViewer, Views, open_sheets};
+use run_views::{LiveViewer, open_sheets};
+use view_options::Views;
 use std::io::Write;
 use std::process::Abort;
 use std::rt::Files;

@@ -5,7 +5,7 @@ use super::controllers::{are_handled, empty_desk, input_of, sent_lines, shared_s
 use crate::leaving::Leaving;
 use channel_fsm::Rate;
 use ho_procedure::controller::Controller;
-use ho_procedure::exchange::Fault;
+use exchange::Fault;
 use ho_procedure::view::DeskView;
 use radio_book::event::{Event, Kind};
 use radio_desk::desk::DeskFault;

@@ -4,7 +4,7 @@ use super::requests::{
     BEGINNING, BEGINNINGS, CALLS, CANDIDATES, COMING, LEAVING, MOVES, ROOM_COMES_FIRST,
     TWO_NEIGHBOURS, TWO_PARTS,
 };
-use ho_procedure::exchange::{Fault, Outbound};
+use exchange::{Fault, Outbound};
 use refusing_heap::RefusingHeap;
 use sample_sites::THREE_CHANNELS;
 use std::alloc::Global;

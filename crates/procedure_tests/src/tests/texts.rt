@@ -1,6 +1,6 @@
 //! The texts of why an input was not handled to its end.
 use bssmap_messages::BssmapFault;
-use ho_procedure::exchange::{Bad, Fault, Link};
+use exchange::{Bad, Fault, Link};
 use rr_messages::RrFault;
 use rsl_messages::RslFault;
 use std::process::Abort;

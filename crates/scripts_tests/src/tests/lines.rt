@@ -3,7 +3,7 @@ use super::{Fail, Global, RefusingHeap, equals_at, holds_at};
 use attempt_journal::Timer;
 use bts_model::{Act, Answer, Habit, Held, Setting, Sub};
 use channel_fsm::{ChanId, Rate};
-use ho_procedure::exchange::{Inbound, Line};
+use exchange::{Inbound, Line};
 use lab_script::asked::{Asked, Heard, Report, Whom};
 use lab_script::script::{
     Given, Item, ScriptFault, Side, first_unreadable, is_octets, read_script,

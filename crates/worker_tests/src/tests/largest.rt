@@ -3,7 +3,7 @@ use super::offices::{Course, Hall, Left, are_ok, at_an_office, give_one};
 use crate::bag::{Bag, Taken};
 use call_worker::WorkerEnd;
 use channel_fsm::{ChanId, Sub};
-use ho_procedure::exchange::{Inbound, Line};
+use exchange::{Inbound, Line};
 use octet_elements::Octets;
 use radio_book::book::Usage;
 use sample_sites::site_of_cells;

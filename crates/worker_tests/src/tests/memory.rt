@@ -4,7 +4,7 @@ ghost use Rattle.std.specs.Prelude.{◌≡◌, []};
 use super::offices::{Ajar, Hall, Left, are_told_once, empty_desk, have_ended, inputs_of, opened};
 use crate::bag::{Bag, Taken};
 use call_worker::{CloseFault, GiveFault, StartFault, Turn, Unclosed, WorkerEnd};
-use ho_procedure::exchange::Inbound;
+use exchange::Inbound;
 use radio_desk::desk::Desk;
 use refusing_heap::{Refusals, RefusingHeap};
 use sample_sites::THREE_CHANNELS;

@@ -4,7 +4,7 @@ ghost use Rattle.std.specs.Prelude.{◌≡◌, ◌<◌, ◌≤◌, [], All, IfOk
 use crate::bag::{Bag, Taken, bags};
 use call_worker::{Closed, Gate, Office, Point, StartFault, Turn};
 use cell_table::Site;
-use ho_procedure::exchange::{Inbound, Outbound};
+use exchange::{Inbound, Outbound};
 use lab_script::script::{Given, Item, read_script};
 use radio_book::book::Book;
 use radio_desk::desk::Desk;

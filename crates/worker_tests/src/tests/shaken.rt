@@ -7,7 +7,7 @@ use super::offices::{Course, Hall, Left, are_ok, at_a_desk, empty_desk, give_one
 use crate::bag::Taken;
 use call_worker::{Gate, Point};
 use channel_fsm::{ChanId, Sub};
-use ho_procedure::exchange::{Inbound, Line};
+use exchange::{Inbound, Line};
 use octet_elements::Octets;
 use radio_book::book::Usage;
 use radio_desk::audit::Audit;

@@ -5,7 +5,7 @@ use super::offices::{
 };
 use crate::bag::Taken;
 use ho_procedure::controller::Controller;
-use ho_procedure::exchange::{Inbound, Outbound};
+use exchange::{Inbound, Outbound};
 use ho_procedure::solo::Solo;
 use radio_book::event::{Event, Reply};
 use radio_desk::desk::Desk;

@@ -1,6 +1,6 @@
 //! The tray of a storm: what a worker sends lies there once, in its order.
 use call_worker::Links;
-use ho_procedure::exchange::Outbound;
+use exchange::Outbound;
 use octet_elements::Octets;
 use std::alloc::Global;
 use std::process::Abort;

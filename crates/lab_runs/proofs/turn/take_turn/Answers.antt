@@ -1,7 +1,7 @@
 use Rattle.std.proofs.Common.{◌≡◌, ◌∙◌, All, ap, subst, drop, length}
 use Rattle.radio_book.specs.Run.{Leads}
 use Rattle.radio_desk.specs.Desk.{DeskState}
-use Rattle.ho_procedure.specs.declared.exchange.Inbound.{Inbound}
+use Rattle.exchange.specs.declared.Inbound.{Inbound}
 use Rattle.lab_runs.specs.Notes.{NotingState, IsTrueNote, with_notes}
 use Rattle.lab_runs.specs.Turns.{Answers}
 use Rattle.lab_runs.proofs.TurnFacts.{Told, told}

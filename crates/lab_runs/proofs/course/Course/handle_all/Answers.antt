@@ -2,7 +2,7 @@ use Rattle.std.proofs.Common.{◌≡◌, ◌∷◌, [], List, map, refl, sym, �
 use Rattle.std.proofs.lemmas.Iterator.Adapters.{YieldsList-from_vec}
 use Rattle.std.proofs.lemmas.Iterator.Consumers.{YieldsList-end}
 use Rattle.std.proofs.lemmas.List.{map-append, map-id}
-use Rattle.ho_procedure.specs.declared.exchange.Inbound.{Inbound}
+use Rattle.exchange.specs.declared.Inbound.{Inbound}
 use Rattle.lab_script.specs.declared.side.Side.{Side}
 use Rattle.lab_runs.specs.Course.{Went}
 use Rattle.lab_runs.proofs.CourseFacts.{stayed, went_on}

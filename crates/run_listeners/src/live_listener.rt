@@ -1,10 +1,10 @@
 //! Who hears what comes of lines as they come.
+use crate::fault::LabFault;
+use crate::listener::{Listener, Printing};
+use crate::turn::Turn;
+use crate::unmet::Unmet;
 use cell_table::SiteFault;
-use ho_procedure::exchange::Outbound;
-use lab_runs::asked::Unmet;
-use lab_runs::listener::{Listener, Printing};
-use lab_runs::run::LabFault;
-use lab_runs::turn::Turn;
+use exchange::Outbound;
 use radio_book::book::Book;
 use std::alloc::Allocator;
 use std::io::{self, Write};

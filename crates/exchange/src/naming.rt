@@ -1,6 +1,6 @@
 //! The channel that a message names.
 ghost use Rattle.std.specs.Prelude.{◌≡◌};
-ghost use Rattle.ho_procedure.specs.Naming.{chan_of};
+ghost use Rattle.exchange.specs.Naming.{chan_of};
 
 use channel_fsm::ChanId;
 use rsl_messages::Rsl;

@@ -1,6 +1,9 @@
-//! What goes into a controller, and what comes out of it.
+//! What goes into a base station controller, and what comes out of it: messages as octets, operators' lines, expiries. It needs
+//! no book: scripts, traces and captures stand on it alone.
+#![tactic(auto)]
+
 ghost use Rattle.std.specs.Prelude.{◌≡◌, IfOk, OnErr};
-ghost use Rattle.ho_procedure.specs.Handling.{HoldsOctets};
+ghost use Rattle.exchange.specs.Inputs.{HoldsOctets};
 
 use attempt_journal::Timer;
 use bssmap_messages::BssmapFault;
@@ -11,6 +14,10 @@ use rsl_messages::RslFault;
 use std::alloc::{AllocError, Allocator, Global};
 use std::fmt;
 use thiserror::Error;
+
+mod naming;
+
+pub use naming::chan_of;
 
 /// What an operator asks for. A call is named by its number, 0 to 65535.
 #[derive(Clone, Copy, Debug, PartialEq, Eq)]

@@ -1,4 +1,5 @@
-//! Which views are asked for.
+//! Which views of a run are asked for: what the words of a command line say, and what is printed beside a trace.
+#![tactic(auto)]
 
 /// How counts are shown.
 #[derive(Clone, Copy, Debug, PartialEq, Eq)]

@@ -1,10 +1,10 @@
 //! Who hears what comes of a script, as it comes; and one that prints it.
-use crate::asked::Unmet;
-use crate::run::LabFault;
+use crate::fault::LabFault;
 use crate::turn::{Answer, Turn};
+use crate::unmet::Unmet;
 use bts_model::Setting;
 use cell_table::SiteFault;
-use ho_procedure::exchange::Outbound;
+use exchange::Outbound;
 use radio_book::book::Book;
 use std::alloc::Allocator;
 use std::io::{self, Write};
