@@ -433,3 +433,22 @@ A timeslot that isn't in half has no halves, nor has a line with what is no half
   $ ./lab audit examples/half_rate.toml bad.trace 2>&1 >/dev/null
   bad.trace:1: no event with its reply, as run prints it: event look 1 -> refused 1
   [2]
+
+The last timeslot of the largest site, 64 cells with four TRX each:
+
+  $ printf '[handover]\nwindow = 2\nmargin = 3\nminimum = 10\n' >wide.toml
+  $ for n in $(seq 0 63); do printf '[[cell]]\nlac = 1\nci = %d\nbcch = %d\nncc = 0\nbcc = 0\npower = 5\nba = []\ntrx = [{ arfcn = %d, tch = [7] }' $n $((4 * n)) $((4 * n)); for m in 1 2 3; do printf ', { arfcn = %d, tch = [7], half = [7] }' $((4 * n + m)); done; printf ']\n'; done >>wide.toml
+  $ printf 'open 1 63 3 7\nclear 1\nabis 63 3 0833010f\nopen 1 63 3 7/0\nopen 2 63 3 7/1\nopen 3 63 3 7\n' >last.txt
+  $ ./lab run wide.toml last.txt | grep -v '^in'
+  event open 1 63/3/7 -> done
+  out abis 63 3 0821010f0300060400010801
+  event look 1 -> record 63/3/7 pending
+  event clear 1 -> done
+  out abis 63 3 082e010f
+  event released 63/3/7 -> done
+  event open 1 63/3/7/0 -> done
+  out abis 63 3 082101170300060400010901
+  event open 2 63/3/7/1 -> done
+  out abis 63 3 0821011f0300060400010901
+  event open 3 63/3/7 -> refused 6 63/3/7/0
+  end channels=2 calls=2 references=0 timers=0

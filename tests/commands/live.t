@@ -9,6 +9,18 @@ A controller is given the lines of standard input as they come, and prints what 
   $ ./lab live examples/two_cells.toml </dev/null
   end channels=0 calls=0 references=0 timers=0
 
+Lines come in pieces of one octet to eight.
+
+  $ in_pieces() {
+  >   python3 -c 'import sys, time
+  > text, size = open("examples/one_call.txt", "rb").read(), int(sys.argv[1])
+  > for at in range(0, len(text), size):
+  >     sys.stdout.buffer.write(text[at : at + size])
+  >     sys.stdout.buffer.flush()
+  >     time.sleep(0.001)' "$1"
+  > }
+  $ for size in 1 2 3 4 5 6 7 8; do in_pieces $size | ./lab live examples/two_cells.toml | cmp - came; done
+
 It does so before the next line comes, and whatever the pieces are in which lines come.
 
   $ mkfifo lines

@@ -13,6 +13,12 @@ Eight cells with three TRX and 23 traffic channels each:
   $ ./lab storm examples/eight_cells.toml --workers 1 --calls 64 >one
   $ ./lab storm examples/eight_cells.toml --workers 2 --calls 64 | cmp one -
   $ ./lab storm examples/eight_cells.toml --workers 16 --calls 64 | cmp one -
+
+Nor on the schedule: sixteen workers on one processor, and on all, again and again.
+
+  $ one_processor=$(taskset -cp $$ | sed 's/.*: //; s/[,-].*//')
+  $ storm() { "$@" ./lab storm examples/eight_cells.toml --workers 16 --calls 64 | cmp one -; }
+  $ for _ in 1 2 3; do storm taskset -c "$one_processor"; storm nice; done
   $ ./lab storm --calls 88 examples/eight_cells.toml --workers=3
   calls 88
   attempts 88
