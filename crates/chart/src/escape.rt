@@ -11,16 +11,17 @@ pub(crate) fn print_character<W: fmt::Write>(
     f: &mut fmt::Formatter<W>,
     character: char,
 ) -> fmt::Result {
-    match character {
-        '&' => f.write_str("&amp;"),
-        '<' => f.write_str("&lt;"),
-        '>' => f.write_str("&gt;"),
-        '"' => f.write_str("&quot;"),
-        '\'' => f.write_str("&apos;"),
-        '\u{FFFE}' | '\u{FFFF}' => f.write_char('?'),
-        _ if character.is_control() => f.write_char('?'),
-        _ => f.write_char(character),
-    }
+    let text = match character {
+        '&' => "&amp;",
+        '<' => "&lt;",
+        '>' => "&gt;",
+        '"' => "&quot;",
+        '\'' => "&apos;",
+        '\u{FFFE}' | '\u{FFFF}' => "?",
+        _ if character.is_control() => "?",
+        _ => return f.write_char(character),
+    };
+    f.write_str(text)
 }
 
 impl fmt::Display for Escaped<'_> {

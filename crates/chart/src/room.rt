@@ -27,7 +27,7 @@ pub fn text_room(text: &str) -> u32 {
 }
 
 /// A text in XML that takes so many letters at most: of a longer one the front stands there, and two dots behind it.
-#[derive(Clone, Copy, Debug)]
+#[derive(Clone, Copy)]
 pub(crate) struct Fitted<'a> {
     pub(crate) text: &'a str,
     pub(crate) room: u32,
@@ -57,8 +57,7 @@ fn print_front<W: fmt::Write>(f: &mut fmt::Formatter<W>, text: &str, room: u32) 
 impl fmt::Display for Fitted<'_> {
     fn fmt<W: fmt::Write>(&self, f: &mut fmt::Formatter<W>) -> fmt::Result {
         if text_room(self.text) <= self.room {
-            let text = Escaped(self.text);
-            return write!(f, "{text}");
+            return Escaped(self.text).fmt(f);
         }
         print_front(f, self.text, self.room.saturating_sub(2))?;
         f.write_str("..")

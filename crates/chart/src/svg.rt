@@ -10,8 +10,17 @@ use std::fmt;
 /// How wide a bar is.
 const BAR: u32 = 11;
 
-/// How the line is drawn between a bar that goes on and its text.
+/// How a line is drawn that is whole, in words of SVG.
+const WHOLE: &str = "";
+
+/// How that between a bar that goes on and its text is drawn.
 const DASHES: &str = " stroke-dasharray=\"2 2\"";
+
+/// How that between two columns is drawn.
+const DOTS: &str = " stroke-dasharray=\"1 5\"";
+
+/// How an arrow is drawn.
+const HEADED: &str = " marker-end=\"url(#head)\"";
 
 /// So many letters have room of what the bars of a side are.
 const LEGEND: u32 = 60;
@@ -34,11 +43,19 @@ impl fmt::Display for Anchor {
     }
 }
 
-/// The pattern of the bars of a side.
+/// The pattern of the bars of a side, as what fills them.
 fn pattern(side: Side) -> &'static str {
     match side {
-        Side::Left => "hatched",
-        Side::Right => "dotted",
+        Side::Left => "url(#hatched)",
+        Side::Right => "url(#dotted)",
+    }
+}
+
+/// The other side.
+fn opposite(side: Side) -> Side {
+    match side {
+        Side::Left => Side::Right,
+        Side::Right => Side::Left,
     }
 }
 
@@ -54,26 +71,25 @@ impl fmt::Display for Chart<'_> {
     }
 }
 
-/// What stands before all shapes: the size, the head of an arrow, the patterns of bars, white paper.
+/// What stands before all shapes, behind the size: the head of an arrow, the patterns of bars, white paper.
+const DEFINITIONS: &str = "\
+<defs>
+<marker id=\"head\" markerWidth=\"10\" markerHeight=\"8\" refX=\"10\" refY=\"4\" orient=\"auto\"><path d=\"M0,0 L10,4 L0,8 z\"/></marker>
+<pattern id=\"hatched\" width=\"6\" height=\"6\" patternUnits=\"userSpaceOnUse\"><path d=\"M-1,1 L1,-1 M0,6 L6,0 M5,7 L7,5\" stroke=\"#000\"/></pattern>
+<pattern id=\"dotted\" width=\"5\" height=\"5\" patternUnits=\"userSpaceOnUse\"><circle cx=\"2\" cy=\"2\" r=\"1\"/></pattern>
+<style>text{paint-order:stroke;stroke:#fff;stroke-width:2px}</style>
+</defs>
+<rect width=\"100%\" height=\"100%\" fill=\"#fff\"/>
+";
+
+/// The size, and what stands before all shapes.
 fn print_head<W: fmt::Write>(f: &mut fmt::Formatter<W>, layout: &Layout<'_>) -> fmt::Result {
     let (width, height) = (layout.width(), layout.height());
     writeln!(
         f,
         "<svg xmlns=\"http://www.w3.org/2000/svg\" width=\"{width}\" height=\"{height}\" viewBox=\"0 0 {width} {height}\" font-family=\"monospace\" font-size=\"11\">"
     )?;
-    f.write_str("<defs>\n")?;
-    f.write_str(
-        "<marker id=\"head\" markerWidth=\"10\" markerHeight=\"8\" refX=\"10\" refY=\"4\" orient=\"auto\"><path d=\"M0,0 L10,4 L0,8 z\"/></marker>\n",
-    )?;
-    f.write_str(
-        "<pattern id=\"hatched\" width=\"6\" height=\"6\" patternUnits=\"userSpaceOnUse\"><path d=\"M-1,1 L1,-1 M0,6 L6,0 M5,7 L7,5\" stroke=\"#000\"/></pattern>\n",
-    )?;
-    f.write_str(
-        "<pattern id=\"dotted\" width=\"5\" height=\"5\" patternUnits=\"userSpaceOnUse\"><circle cx=\"2\" cy=\"2\" r=\"1\"/></pattern>\n",
-    )?;
-    f.write_str("<style>text{paint-order:stroke;stroke:#fff;stroke-width:2px}</style>\n")?;
-    f.write_str("</defs>\n")?;
-    f.write_str("<rect width=\"100%\" height=\"100%\" fill=\"#fff\"/>\n")
+    f.write_str(DEFINITIONS)
 }
 
 /// A text at a place.
@@ -90,18 +106,32 @@ fn print_text<W: fmt::Write>(
     )
 }
 
-/// The outline of a bar, filled by the pattern of its side.
-fn print_outline<W: fmt::Write>(
+/// A line between two places.
+fn print_line<W: fmt::Write>(
     f: &mut fmt::Formatter<W>,
-    x: u32,
-    y: u32,
-    height: u32,
-    side: Side,
+    from: (u32, u32),
+    to: (u32, u32),
+    look: &str,
 ) -> fmt::Result {
-    let pattern = pattern(side);
+    let ((x1, y1), (x2, y2)) = (from, to);
     writeln!(
         f,
-        "<rect x=\"{x}\" y=\"{y}\" width=\"{BAR}\" height=\"{height}\" fill=\"url(#{pattern})\" stroke=\"#000\"/>"
+        "<line x1=\"{x1}\" y1=\"{y1}\" x2=\"{x2}\" y2=\"{y2}\" stroke=\"#000\"{look}/>"
+    )
+}
+
+/// A box, whose upper left corner is at a place.
+fn print_box<W: fmt::Write>(
+    f: &mut fmt::Formatter<W>,
+    place: (u32, u32),
+    width: u32,
+    height: u32,
+    fill: &str,
+) -> fmt::Result {
+    let (x, y) = place;
+    writeln!(
+        f,
+        "<rect x=\"{x}\" y=\"{y}\" width=\"{width}\" height=\"{height}\" fill=\"{fill}\" stroke=\"#000\"/>"
     )
 }
 
@@ -116,7 +146,7 @@ fn print_sample<W: fmt::Write>(
     if layout.tracks(side) == 0 {
         return Ok(());
     }
-    print_outline(f, x, 9, 11, side)?;
+    print_box(f, (x, 9), BAR, 11, pattern(side))?;
     print_text(f, x.saturating_add(18), 18, Anchor::Start, text)
 }
 
@@ -167,11 +197,8 @@ fn print_border<W: fmt::Write>(
     if column == 0 {
         return Ok(());
     }
-    let (x, height) = (layout.column_x(column), layout.height());
-    writeln!(
-        f,
-        "<line x1=\"{x}\" y1=\"0\" x2=\"{x}\" y2=\"{height}\" stroke=\"#000\" stroke-dasharray=\"1 5\"/>"
-    )
+    let x = layout.column_x(column);
+    print_line(f, (x, 0), (x, layout.height()), DOTS)
 }
 
 /// The lines of the lanes in a column.
@@ -184,10 +211,7 @@ fn print_lines<W: fmt::Write>(
     let (top, bottom) = (row_y(0).saturating_sub(18), layout.last_y(column) + 14);
     for lane in 0..count(lanes) {
         let x = layout.lane_x(column, lane);
-        writeln!(
-            f,
-            "<line x1=\"{x}\" y1=\"{top}\" x2=\"{x}\" y2=\"{bottom}\" stroke=\"#000\"/>"
-        )?;
+        print_line(f, (x, top), (x, bottom), WHOLE)?;
     }
     Ok(())
 }
@@ -292,34 +316,30 @@ fn print_part<W: fmt::Write>(
     let top = row_y(bar.first.max(begin)).saturating_sub(12);
     let bottom = row_y(last.min(begin.saturating_add(COLUMN - 1))) + 6;
     let x = layout.bar_x(column, bar.side, bar.track);
-    print_outline(f, x, top, bottom.saturating_sub(top), bar.side)
+    let height = bottom.saturating_sub(top);
+    print_box(f, (x, top), BAR, height, pattern(bar.side))
 }
 
-/// A line in a row at this height, between a bar and its text.
-fn print_leader<W: fmt::Write>(
-    f: &mut fmt::Formatter<W>,
-    y: u32,
-    line: (u32, u32),
-    dashes: &str,
-) -> fmt::Result {
-    let (from, to) = line;
-    let y = y.saturating_sub(4);
-    writeln!(
-        f,
-        "<line x1=\"{from}\" y1=\"{y}\" x2=\"{to}\" y2=\"{y}\" stroke=\"#000\"{dashes}/>"
-    )
-}
-
-/// A text in a row at this height, and a line between it and its bar.
+/// A text on this side of a bar, in a row at this height, and a line between the two.
 fn print_label<W: fmt::Write>(
     f: &mut fmt::Formatter<W>,
     y: u32,
-    line: (u32, u32),
+    bar_x: u32,
+    side: Side,
     x: u32,
-    anchor: Anchor,
     text: Fitted<'_>,
+    look: &str,
 ) -> fmt::Result {
-    print_leader(f, y, line, "")?;
+    let (from, to, anchor) = match side {
+        Side::Left => (x.saturating_add(4), bar_x, Anchor::End),
+        Side::Right => (
+            bar_x.saturating_add(BAR),
+            x.saturating_sub(4),
+            Anchor::Start,
+        ),
+    };
+    let line_y = y.saturating_sub(4);
+    print_line(f, (from, line_y), (to, line_y), look)?;
     print_text(f, x, y, anchor, text)
 }
 
@@ -336,13 +356,7 @@ fn print_bar_text<W: fmt::Write>(
         text: bar.text,
         room: BAR_TEXT,
     };
-    match bar.side {
-        Side::Left => { print_label(f, y, (x.saturating_add(4), bar_x), x, Anchor::End, text) }
-        Side::Right => {
-            let line = (bar_x.saturating_add(BAR), x.saturating_sub(4));
-            print_label(f, y, line, x, Anchor::Start, text)
-        }
-    }
+    print_label(f, y, bar_x, bar.side, x, text, WHOLE)
 }
 
 /// Whether a bar ends before another, or with it and stands nearer or began earlier.
@@ -373,7 +387,7 @@ fn onward_place(bars: &[Bar<'_>], bar: &Bar<'_>, column: u32) -> u32 {
     place
 }
 
-/// The text of a bar that goes on in a column, in a row of it. The line to its bar is dashed.
+/// The text of a bar that goes on in a column, in a row of it: between the bar and the lanes. The line to its bar is dashed.
 fn print_onward_text<W: fmt::Write>(
     f: &mut fmt::Formatter<W>,
     layout: &Layout<'_>,
@@ -388,17 +402,7 @@ fn print_onward_text<W: fmt::Write>(
         text: bar.text,
         room: ONWARD_TEXT,
     };
-    match bar.side {
-        Side::Left => {
-            let line = (bar_x.saturating_add(BAR), x.saturating_sub(4));
-            print_leader(f, y, line, DASHES)?;
-            print_text(f, x, y, Anchor::Start, text)
-        }
-        Side::Right => {
-            print_leader(f, y, (x.saturating_add(4), bar_x), DASHES)?;
-            print_text(f, x, y, Anchor::End, text)
-        }
-    }
+    print_label(f, y, bar_x, opposite(bar.side), x, text, DASHES)
 }
 
 /// The rows.
@@ -465,10 +469,7 @@ fn print_arrow<W: fmt::Write>(
     y: u32,
     text: &str,
 ) -> fmt::Result {
-    writeln!(
-        f,
-        "<line x1=\"{start}\" y1=\"{y}\" x2=\"{end}\" y2=\"{y}\" stroke=\"#000\" marker-end=\"url(#head)\"/>"
-    )?;
+    print_line(f, (start, y), (end, y), HEADED)?;
     let width = start.abs_diff(end);
     let room = letters_in(width.saturating_sub(2 * ARROW_END));
     let middle = start.min(end).saturating_add(width / 2);
@@ -496,10 +497,7 @@ fn print_note<W: fmt::Write>(
         room: layout.note_room(lane),
     };
     let width = text.width().saturating_add(NOTE_MARGIN);
-    let (left, top) = (x.saturating_sub(width / 2), y.saturating_sub(12));
-    writeln!(
-        f,
-        "<rect x=\"{left}\" y=\"{top}\" width=\"{width}\" height=\"16\" fill=\"#fff\" stroke=\"#000\"/>"
-    )?;
+    let corner = (x.saturating_sub(width / 2), y.saturating_sub(12));
+    print_box(f, corner, width, 16, "#fff")?;
     print_text(f, x, y, Anchor::Middle, text)
 }
