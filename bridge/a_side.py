@@ -1,12 +1,20 @@
 """A: the switching centre's side of all calls (TS 48.008, 3.1). A connection is a call; what the controller says of it goes
 there, and what comes is given to the controller, but for what is between mobile and centre, which the controller doesn't
 read."""
+from __future__ import annotations
+
+import typing
+
 import bssmap
 from bssmap import Cause, Type
 from link_layer import LONGEST, MAIN_SAPI, SHORT_SAPI
 from outgoing import OutgoingCalls
 from rtp import codec_of
 from tell import say
+
+if typing.TYPE_CHECKING:
+    from connections import Connections
+    from m3ua import M3ua
 
 # Of a DLCI the bits that have the service access point (TS 48.006, 9.3.2).
 SAPI = 0x07
@@ -18,7 +26,7 @@ class ASide:
 
     def __init__(self, relay, times, seconds):
         self.relay, self.times, self.seconds = relay, times, seconds
-        self.connections = None
+        self.connections: Connections | M3ua
         self.outgoing = OutgoingCalls(relay, times, seconds)
         # whether both sides have begun anew: nothing begins before that
         self.is_there = False

@@ -13,8 +13,7 @@ import bssmap
 import rsl
 from calls import OFF, ON, PENDING, Event
 from journal import Journal, JournalError
-from operators import shown
-from tell import say
+from tell import say, shown
 from watch import Watch
 
 # In how many seconds a controller may end so often, and how long it may take to go on over its journal, or to end for another.
@@ -63,7 +62,7 @@ class Again:
         self.begun_at, self.begun, self.vain = 0.0, 0, 0
         # how many lines it has printed before it goes on; None where it needn't
         self.early = None
-        self.upgrading = None
+        self.upgrading: Upgrade | None = None
         # whether the book is one that the bridge hasn't seen yet; and whether a controller has gone on over its journal
         self.is_new, self.has_gone_on = True, False
         # whether the bridge ends since none can go on
@@ -182,8 +181,8 @@ class Again:
         self.bridge.close_errors()
         if self.bridge.is_killed:
             self.end("the controller is killed")
-        elif self.is_upgrading():
-            self.go_elsewhere(f"it ended with status {status}")
+        elif self.is_upgrading() and self.upgrading:
+            self.go_elsewhere(self.upgrading, f"it ended with status {status}")
         elif status >= 0 and not (self.has_gone_on or self.relay.line):
             # it can't begin
             self.end("the controller has ended")
@@ -287,7 +286,7 @@ class Again:
         if self.is_paused():
             # none is there that would have to end
             self.times.forget("again")
-            self.go_elsewhere("")
+            self.go_elsewhere(self.upgrading, "")
             return
         self.relay.is_away = True
         self.times.set("resume", LONGEST, self.is_too_slow)
@@ -304,9 +303,8 @@ class Again:
             return "the controller isn't there just now"
         return None
 
-    def go_elsewhere(self, why):
+    def go_elsewhere(self, it, why):
         """The controller has ended for another, which is started; or that one has, and why: then the old one is, again."""
-        it = self.upgrading
         if not it.is_tried:
             it.is_tried, self.command = True, it.new
             try:
@@ -327,8 +325,9 @@ class Again:
         events = [Event.of(line.decode()) for line in self.journal.book(last) if line.startswith(b"event ")]
         self.is_new = False
         relay.line, relay.heard = last, None
-        for event in filter(None, events):
-            relay.calls.follow(event)
+        for event in events:
+            if event:
+                relay.calls.follow(event)
         channels, calls = relay.calls.channels, sorted(relay.calls.calls, key=int)
         given, relay.given = list(relay.given), type(relay.given)()
         for state, message, elements in ANSWERS:

@@ -22,6 +22,8 @@ LINK_FAILURE = b"\x1a\x01\x01"
 class Seizing(Operator):
     """Who asks the controller for some channel of a cell, as operators ask it: hears what it answers, line by line."""
 
+    is_served = False
+
     def __init__(self, air, call, may_be_half):
         super().__init__(air.relay, "bridge, for a mobile")
         self.air, self.call, self.may_be_half = air, call, may_be_half

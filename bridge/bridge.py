@@ -6,22 +6,26 @@ import selectors
 import signal
 import socket
 import stat
+import subprocess
 import time
 
+import faults
 from again import Again
 from child import begin
 from figures import FiguresFile
 from links import Links
 from log import Log
-from operators import QUIET, Client, Operator, shown
+from operators import QUIET, Client, Operator, Turns
 from relay import Relay
-from stream import Lines, Stream, Times
-from tell import ERRORS, OUTPUT, say
+from stream import Lines, Selector, Stream, Times
+from tell import ERRORS, OUTPUT, say, shown
 
 # How long the controller may take to end, in seconds.
 LAST = 30.0
 # For how long somebody may not read what is printed at the end, in seconds.
 UNREAD = 5.0
+# How many faults of the bridge itself may be met while it ends for the first of them.
+MOST_FAULTS = 100
 # After how many milliseconds is looked again whether the controller has ended that prints nothing more.
 SOON = 10
 
@@ -34,22 +38,26 @@ class Bridge:
 
     def __init__(self, words, make_relay=Relay):
         """`words` are the settings: `stations`, `seconds`, `bind`, `port`, `log`, `control`, `figures`, `figures_every`,
-        `messages`, `again`, `hang`, and `core`, the controller's command."""
+        `messages`, `again`, `hang`, and `core`, the controller's command. The controller and standard input are there once it has
+        started."""
         self.words = words
-        self.selector = selectors.PollSelector()
+        self.selector = Selector()
         self.times = Times()
         self.relay = make_relay(words.stations, self.times, words.seconds)
         self.relay.tells_messages = words.messages
         self.sockets = {}
         self.links = self.relay.links = Links(self.relay, self.close)
-        self.clients = set()
-        self.operator = None
+        self.clients: set[Client] = set()
+        self.operator: Stream
+        self.turns = Turns(self.relay)
         self.listeners = []
         self.control = self.figures = None
-        self.core = None
+        self.core: subprocess.Popen
         self.again = self.relay.again = Again(self, words.core, words.again, words.hang)
         # whether all ends, and whether the controller was killed for that; and whether that has printed what none does
         self.is_ending = self.is_killed = self.is_garbled = False
+        # whether it ends since it has a fault itself
+        self.is_faulty = False
 
     def start(self):
         """Opens what is to be open, the controller last."""
@@ -58,9 +66,9 @@ class Bridge:
             self.relay.log = Log(words.log, self.times)
         family = socket.AF_INET6 if ":" in words.bind else socket.AF_INET
         listener = socket.create_server((words.bind, words.port), family=family)
-        self.listen(listener, self.accept)
+        self.listen(listener, self.accept, faults.STATION)
         if words.control:
-            self.listen(control_socket(words.control), self.accept_operator)
+            self.listen(control_socket(words.control), self.accept_operator, faults.OPERATOR)
             self.control = words.control
         if words.figures:
             self.figures = FiguresFile(words.figures, words.figures_every, self.times, self.relay.figures)
@@ -110,11 +118,13 @@ class Bridge:
                 self.end("standard input has ended")
 
         operator = Operator(self.relay, "operator at standard input")
-        lines = Lines(operator.take)
-        self.operator = Stream(self.selector, 0, None, lines.add, ended)
+        lines = Lines(lambda line: self.turns.add(operator, line))
+        self.operator = operator.stream = Stream(self.selector, 0, None, lines.add, ended)
+        self.operator.is_operators, self.operator.faulty = True, operator.faulty
 
-    def listen(self, listener, accept):
-        """Waits for those who connect. Where the system has no room for one, it is asked again after a while."""
+    def listen(self, listener, accept, place):
+        """Waits for those who connect. Where the system has no room for one, it is asked again after a while. `place` is where
+        faults of the bridge are counted that are met then."""
         listener.setblocking(False)
         self.listeners.append(listener)
 
@@ -131,6 +141,8 @@ class Bridge:
                 say(f"nobody can connect now: {error}")
                 self.selector.unregister(listener)
                 self.times.set(("listener", listener), QUIET, watch)
+            except Exception as error:
+                self.relay.faults.tell(place, "somebody who connects", error, "he isn't taken")
 
         watch()
 
@@ -262,36 +274,77 @@ class Bridge:
     def run(self):
         """Does what comes, until the controller has ended; its status, which is 1 where none can go on."""
         while self.relay.core or self.relay.is_away:
-            # what a link has left has its turn without delay
-            self.take_what_comes(0 if self.links.behind else self.times.seconds_left())
-            self.links.take_turns()
-            self.times.run_due()
-            self.pause()
+            try:
+                self.take_turn()
+            except Exception as error:
+                self.end_faulty(error)
         self.relay.endings.finish()
         for link in list(self.links.all):
             link.close()
         status = self.status_of_core()
         self.close_errors()
+        for client in self.clients:
+            client.stream.is_operators = False
+            client.stream.flush()
         self.relay.tell_all()
         if self.relay.log:
             self.relay.log.finish()
         undone = f", that it hasn't done: {len(self.relay.given)}" if self.relay.given else ""
         say(f"the controller ended with status {status}; lines that it couldn't read: {self.relay.unread}{undone}")
-        return status if status > 0 else int(status < 0 or self.again.has_failed)
+        return status if status > 0 else int(status < 0 or self.again.has_failed or self.is_faulty)
+
+    def take_turn(self):
+        """Waits for something, and does what comes: stations, the centre, the controller and times first, then operators. What
+        failed while it was written to ends here, where nobody uses it."""
+        is_waited_for = self.links.behind or self.selector.failed or self.turns.next()
+        operators = self.take_what_comes(0 if is_waited_for else self.times.seconds_left())
+        self.links.take_turns()
+        self.times.run_due()
+        for key, mask in operators:
+            self.handle(key, mask)
+        self.turns.take_turn()
+        self.selector.end_failed()
+        self.links.look()
+        self.pause()
 
     def take_what_comes(self, seconds):
-        """Waits so long for something, and takes what comes: each socket once."""
+        """Waits so long for something, and takes what comes: each socket once; but for what comes of operators, which is given back.
+        """
+        operators = []
         for key, mask in self.selector.select(seconds):
-            known = self.selector.get_map().get(key.fd)
-            if known is None or known.data is not key.data:
-                # what was done before has closed it
-                continue
-            if isinstance(key.data, Stream):
-                key.data.ready(mask)
+            if isinstance(key.data, Stream) and key.data.is_operators:
+                operators.append((key, mask))
             else:
-                key.data(mask)
-            if self.relay.is_busy() or self.relay.is_asked_much():
-                self.pause()
+                self.handle(key, mask)
+        return operators
+
+    def handle(self, key, mask):
+        """Takes what comes from a socket."""
+        known = self.selector.get_map().get(key.fd)
+        if known is None or known.data is not key.data:
+            # what was done before has closed it
+            return
+        if not isinstance(key.data, Stream):
+            key.data(mask)
+            return
+        try:
+            key.data.ready(mask)
+        except Exception as error:
+            if key.data.faulty is None:
+                raise
+            key.data.faulty(error)
+        if self.relay.is_busy() or self.relay.is_asked_much():
+            self.pause()
+
+    def end_faulty(self, error):
+        """A fault of the bridge was met where it isn't of one peer alone: what it knows may be wrong, and it ends. Where there are too
+        many meanwhile it ends at once."""
+        self.relay.faults.tell(faults.BRIDGE, "bridge", error, "what it knows may be wrong, and it ends")
+        self.is_faulty = True
+        if self.relay.faults.counts[faults.BRIDGE] > MOST_FAULTS:
+            raise error
+        if not self.is_ending:
+            self.end("a fault of the bridge")
 
 
 def watch_cable(connection, seconds):

@@ -42,7 +42,7 @@ class InUse:
     """A channel that is in use: its state, of which call, and since when."""
 
     state: str
-    call: str = None
+    call: str | None = None
     since: str = dataclasses.field(default_factory=now)
 
 
@@ -50,10 +50,10 @@ class InUse:
 class Call:
     """A call: the channel that it is on, and its attempt at handover."""
 
-    serving: Channel = None
-    kind: str = None
-    stage: str = None
-    target: Channel = None
+    serving: Channel | None = None
+    kind: str | None = None
+    stage: str | None = None
+    target: Channel | None = None
 
 
 class Calls:

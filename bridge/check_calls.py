@@ -4,6 +4,7 @@ import time
 
 import rsl
 from harness import CHANNEL, FIRST, LIMIT, SECOND, SITE, SLOW, is_kind, must
+from station import TestStation
 
 
 def a_call(start, room, program):
@@ -134,16 +135,103 @@ def unread_answer(start, _room, _program):
 
 
 def lost_release(start, _room, _program):
-    """A station doesn't acknowledge a release: that is done in its place."""
+    """A station doesn't acknowledge a release: that is done in its place, and nobody gets the channel before the station has, or its
+    link has ended: an activation meanwhile is refused, nothing is sent, and `calls` says since when."""
     bridge = start("--answer", SLOW)
     station = bridge.station(FIRST)
     station.unanswered = {rsl.RELEASE}
-    bridge.ask("open 1 0 0 3")
+    released, refused = "^event released 0/0/3 -> done$", "^in abis 0 0 0823010b1a0120$"
+    for call in (1, 3):
+        bridge.ask(f"open {call} 0 0 3")
+        bridge.expect("record 0/0/3 on$")
+        bridge.ask(f"clear {call}")
+        bridge.expect("^in abis 0 0 0833010b$", released)
+        bridge.said.expect(f"no answer about channel 0/0/3, which is releasing, in {SLOW} seconds$")
+        bridge.ask("calls")
+        bridge.expect("^channel 0/0/3: free; station: closing since [0-9:]+$")
+        bridge.ask(f"open {call + 1} 0 0 3")
+        bridge.expect(refused, f"^event refuse 0/0/3 -> owned {call + 1}$")
+        bridge.said.expect("channel 0/0/3 isn't given: its release since [0-9:]+ isn't acknowledged$")
+        bridge.ask(f"clear {call + 1}")
+        bridge.expect(f"^event clear {call + 1} -> done$")
+        station.settle()
+        must(station.count(is_kind(rsl.ACTIVATION)) == 1, "it is sent an activation")
+        if call == 1:
+            station.leave()
+            bridge.said.expect("its link is lost, with 1 channels$")
+            station = bridge.station(FIRST)
+            station.unanswered = {rsl.RELEASE}
+    station.say(rsl.channel_message(rsl.RELEASE_ACK, CHANNEL))
+    station.settle()
+    bridge.ask("calls")
+    bridge.expect("^no channel is in use$")
+    station.unanswered = set()
+    bridge.ask("open 5 0 0 3")
     bridge.expect("record 0/0/3 on$")
-    bridge.ask("clear 1")
-    bridge.expect("^in abis 0 0 0833010b$", "^event released 0/0/3 -> done$")
+    bridge.ask("clear 5")
+    bridge.expect(released)
     bridge.end()
     must("end channels=0 calls=0 references=0 timers=0" in bridge.out.lines, "something is left")
+
+
+class LateStation(TestStation):
+    """A station that keeps its answers about channels until it is let, and then refuses each second activation, and tells of each
+    channel whether it has it on."""
+
+    def __init__(self, *words):
+        self.kept, self.asked, self.is_on = [], 0, False
+        super().__init__(*words)
+        self.unanswered = {rsl.ACTIVATION, rsl.RELEASE}
+
+    def take(self, stream, message):
+        """Keeps what it answers."""
+        super().take(stream, message)
+        kind = rsl.about_channel(message)
+        if kind == (rsl.ACTIVATION, CHANNEL):
+            self.asked += 1
+            self.kept.append(rsl.ACTIVATION_ACK if self.asked == 1 else rsl.ACTIVATION_NACK)
+        elif kind == (rsl.RELEASE, CHANNEL):
+            self.kept.append(rsl.RELEASE_ACK)
+
+    def answer(self):
+        """Says all that it has kept, in its order."""
+        elements = {rsl.ACTIVATION_ACK: b"\x08\x12\x34", rsl.ACTIVATION_NACK: b"\x1a\x01\x21", rsl.RELEASE_ACK: b""}
+        kept, self.kept = self.kept, []
+        for kind in kept:
+            self.is_on = kind == rsl.ACTIVATION_ACK
+            self.say(rsl.channel_message(kind, CHANNEL, elements[kind]))
+
+
+def stale_answer(start, _room, _program):
+    """A station doesn't answer an activation in time, so it is refused in its place, and released; the channel is opened again. Then
+    come the answer to the first activation, that to the release, and a refusal of another, if there was one: station and book agree."""
+    bridge = start("--answer", SLOW)
+    station = LateStation(bridge.port, FIRST)
+    must(station.known.wait(LIMIT), "it isn't acknowledged")
+    bridge.ask("open 1 0 0 3")
+    bridge.expect("^in abis 0 0 0823010b1a0120$", "^event refuse 0/0/3 -> owned 1$")
+    must(station.await_message(is_kind(rsl.RELEASE)), "no release at the station")
+    bridge.ask("clear 1")
+    bridge.expect("^event clear 1 -> done$")
+    bridge.ask("open 2 0 0 3")
+    bridge.expect("^event open 2 0/0/3 -> done$", "^out abis 0 0 0821010b")
+    # what is to be said in its place, or sent to it, is by then
+    station.settle()
+    station.answer()
+    station.settle()
+    # a line of which nothing comes: the controller has all by then
+    bridge.ask("handover 65535 63")
+    bridge.expect("^in handover 65535 63$")
+    is_on = any(line == "event confirm 0/0/3 -> owned 2" for line in bridge.out.lines)
+    must(not station.is_on and not is_on, f"the station has the channel on: {station.is_on}, the book: {is_on}")
+    bridge.ask("clear 2")
+    bridge.expect("^event clear 2 -> done$")
+    bridge.ask("calls")
+    bridge.expect("^no channel is in use$")
+    station.unanswered = set()
+    bridge.ask("open 3 0 0 3")
+    bridge.expect("record 0/0/3 on$")
+    bridge.end()
 
 
 def lost_links(start, _room, _program):
@@ -453,6 +541,7 @@ CHECKS = [
     lost_activation,
     unread_answer,
     lost_release,
+    stale_answer,
     lost_links,
     no_station,
     mobile_leaves,

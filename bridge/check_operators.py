@@ -1,5 +1,4 @@
 """Checks of the bridge: operators, and the log."""
-import contextlib
 import os
 import re
 import resource
@@ -129,10 +128,10 @@ def unread_answers(start, room, _program):
         other.ask("open 1 0 0 3\nstations\n")
         other.expect("^event open 1 0/0/3 -> done$")
         bridge.expect("record 0/0/3 on$")
-        loud.settimeout(LIMIT)
-        with contextlib.suppress(ConnectionError):
-            while loud.recv(1 << 16):
-                pass
+        # nothing is read: the other end is closed, or there is an error
+        end = select.poll()
+        end.register(loud, 0)
+        must(end.poll(LIMIT * 1000), "his socket stays")
         must(any(line.startswith("station ") for line in other.leave()), "no answer to another operator")
     bridge.process.send_signal(signal.SIGINT)
     bridge.wait(0)

@@ -4,16 +4,18 @@ import contextlib
 import os
 import signal
 import subprocess
+import typing
 
 # What the system is told by a process that is to be killed with the thread that began it (prctl(2)).
 PR_SET_PDEATHSIG = 1
+PRCTL: typing.Callable | None = None
 try:
     import ctypes
 
     PRCTL = ctypes.CDLL(None).prctl
 except (ImportError, OSError, AttributeError, MemoryError):
     # it isn't to be had here
-    PRCTL = None
+    pass
 
 
 def begin(command, said=None):
@@ -44,11 +46,11 @@ def pipe(opened):
 def with_parent(parent):
     """What a process does before it becomes another program, so that it is killed with its parent; None where that isn't to be had.
     Other threads are no matter of it: it waits for nothing that they may have."""
-    if PRCTL is None:
+    if (prctl := PRCTL) is None:
         return None
 
     def act():
-        PRCTL(PR_SET_PDEATHSIG, int(signal.SIGKILL), 0, 0, 0)
+        prctl(PR_SET_PDEATHSIG, int(signal.SIGKILL), 0, 0, 0)
         if os.getppid() != parent:
             os._exit(1)
 

@@ -49,7 +49,8 @@ KIND, OF_IMSI, OF_TMSI, ODD = 0x07, 1, 4, 0x08
 
 def elements_in(message):
     """The elements of a message of BSSMAP, by identifier, the first of each; None where one is torn."""
-    found, at = {}, 3
+    found: dict[int, bytes] = {}
+    at = 3
     while at < len(message):
         identifier, at = message[at], at + 1
         length = WITHOUT_LENGTH.get(identifier)

@@ -87,7 +87,9 @@ def of_stations(relay):
     left_out = Family("gofnild_output_lines_left_out", COUNTER, "Lines of standard output that nobody read in time.")
     up = Family("gofnild_controller_up", GAUGE, "Whether the controller takes lines.").add(int(not relay.is_away))
     again = Family("gofnild_controller_restarts", COUNTER, "How often the controller was started again.").add(relay.again.count)
-    return [up, again, *of_links(relay), *of_book(relay), *of_lines(relay), left_out.add(OUTPUT.left_out)]
+    text = "Faults of the bridge itself, by whose octets, answers or lines were handled then."
+    met = family_of("gofnild_faults", COUNTER, text, "place", relay.faults.counts)
+    return [up, again, *of_links(relay), *of_book(relay), *of_lines(relay), left_out.add(OUTPUT.left_out), met]
 
 
 def of_links(relay):

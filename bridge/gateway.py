@@ -5,6 +5,7 @@ import selectors
 import socket
 import typing
 
+import faults
 import mgcp
 from mgcp import Command, Verb
 from tell import Sayings
@@ -26,10 +27,10 @@ class Asked(typing.NamedTuple):
 class Gateway:
     """A gateway, as who asks it knows it."""
 
-    def __init__(self, selector, times, settings, seconds):
+    def __init__(self, selector, times, settings, seconds, met):
         """`settings` has its address, port and domain; `seconds` how long it may take to answer (`gateway`), and how long it
-        is until it is asked again (`gateway-repeat`)."""
-        self.times, self.settings, self.seconds = times, settings, seconds
+        is until it is asked again (`gateway-repeat`). `met` are the faults of the bridge that were met."""
+        self.times, self.settings, self.seconds, self.faults = times, settings, seconds, met
         self.sayings = Sayings(times)
         self.asked = {}
         # transactions that are over: what was asked, and which connections of which endpoints were answered
@@ -62,8 +63,24 @@ class Gateway:
         number, octets = self.number, command.written(self.number)
         self.asked[number] = Asked(command, octets, told)
         self.counts["asked"] += 1
-        self.times.set(("gateway", number), self.seconds["gateway"], lambda: self.give_up(number))
+        self.later("gateway", number, self.seconds["gateway"], self.give_up)
         self.send(number)
+
+    def later(self, name, number, seconds, action):
+        """Does something about a transaction later."""
+        self.times.set((name, number), seconds, lambda: self.contain(number, lambda: action(number)))
+
+    def contain(self, number, action):
+        """Does something about a transaction. A fault of the bridge there ends this transaction alone, as if no answer came."""
+        told = self.asked[number].told if number in self.asked else None
+        try:
+            action()
+        except Exception as error:
+            self.faults.tell(faults.GATEWAY, f"{self}, transaction {number}", error, "that one is given up")
+            if number in self.asked:
+                self.over_with(number, None)
+            if told:
+                told(None)
 
     def send(self, number):
         """Sends what is asked, and again after a while."""
@@ -72,7 +89,7 @@ class Gateway:
         except OSError:
             # nobody listens there now, or the system has no room: it is said again
             pass
-        self.times.set(("gateway again", number), self.seconds["gateway-repeat"], lambda: self.send_again(number))
+        self.later("gateway again", number, self.seconds["gateway-repeat"], self.send_again)
 
     def send_again(self, number):
         """It isn't answered yet."""
@@ -88,13 +105,18 @@ class Gateway:
         self.finish(number, None)
 
     def finish(self, number, answer):
+        """A transaction is over, and who asked is told."""
+        told = self.asked[number].told
+        self.over_with(number, answer)
+        told(answer)
+
+    def over_with(self, number, answer):
         """A transaction is over."""
         asked = self.asked.pop(number)
         self.times.forget(("gateway", number))
         self.times.forget(("gateway again", number))
         self.over[number] = asked.command, {(answer.endpoint, answer.connection)} if answer else set()
         self.times.set(("gateway over", number), REMEMBERED, lambda: self.over.pop(number, None))
-        asked.told(answer)
 
     # What is answered
 
@@ -106,13 +128,18 @@ class Gateway:
             except OSError:
                 # nothing more came, or nobody listens there
                 return
-            try:
-                answers = mgcp.answers_in(octets)
-            except mgcp.Unreadable as why:
-                self.pass_over(str(why))
-                continue
-            for answer in answers:
-                self.take(answer)
+            for answer in self.answers_in(octets):
+                self.contain(answer.number, lambda answer=answer: self.take(answer))
+
+    def answers_in(self, octets):
+        """The answers of a datagram; none where it can't be read."""
+        try:
+            return mgcp.answers_in(octets)
+        except mgcp.Unreadable as why:
+            self.pass_over(str(why))
+        except Exception as error:
+            self.faults.tell(faults.GATEWAY, f"{self}, a datagram of {len(octets)} octets", error, "it is passed over")
+        return []
 
     def take(self, answer):
         """Takes an answer."""

@@ -13,6 +13,8 @@ IDENTITY = b"\x05"
 ACKNOWLEDGEMENT = b"\x06"
 # The number of a unit, among what a station may be asked to say of itself.
 UNIT = 0x08
+# More of a unit isn't of use: none that is known is so long.
+LONGEST_UNIT = 100
 ASKED = (UNIT, 0x07, 0x02, 0x03, 0x04, 0x05, 0x01, 0x00)
 
 
@@ -32,9 +34,7 @@ def unit_in(identity):
     while len(rest) >= 3:
         length = int.from_bytes(rest[:2], "big")
         if length >= 1 and rest[2] == UNIT:
-            text = rest[3 : 2 + length].split(b"\0")[0].decode("ascii", "replace")
-            # it is shown to operators, whose lines and terminals it isn't to change
-            return "".join(it if it.isprintable() else "?" for it in text)
+            return rest[3 : 2 + length].split(b"\0")[0][:LONGEST_UNIT].decode("ascii", "replace")
         rest = rest[2 + length :]
     return None
 

@@ -6,20 +6,24 @@ import errno
 import selectors
 import socket
 
+import faults
 import ipa
-from tell import say
 from stream import Stream
+from tell import say
 
 # The stream of SCCP, and what a unit without a number says that it is.
 SCCP, NO_UNIT = 0xFD, "0/0/0"
 
 
 class IpaClient:
-    """The link. `user` has methods `up()`, `down()` and `heard(octets)` for the messages of SCCP."""
+    """The link. `user` has methods `up()`, `down()` and `heard(octets)` for the messages of SCCP; `met` are the faults of the bridge
+    that were met."""
 
-    def __init__(self, selector, times, centre, seconds, user):
+    def __init__(self, selector, times, centre, seconds, user, met):
         self.selector, self.times, self.centre, self.seconds, self.user = selector, times, centre, seconds, user
-        self.socket = self.stream = None
+        self.faults = met
+        self.socket: socket.socket | None = None
+        self.stream: Stream | None = None
         self.is_ready = self.is_left = False
         self.frames = ipa.Frames()
 
@@ -39,11 +43,32 @@ class IpaClient:
         if status not in (0, errno.EINPROGRESS):
             self.lose(errno.errorcode.get(status, str(status)))
             return
-        self.selector.register(self.socket, selectors.EVENT_WRITE, self.opened)
-        self.times.set("centre", self.seconds["patience"], lambda: self.lose("the centre's link doesn't come up"))
+        self.selector.register(self.socket, selectors.EVENT_WRITE, lambda _mask: self.contain(self.opened))
+        self.later(self.seconds["patience"], lambda: self.lose("the centre's link doesn't come up"))
 
-    def opened(self, _mask):
+    def __str__(self):
+        return f"A: the link to {self.centre.address}, port {self.centre.port}"
+
+    def later(self, seconds, action):
+        """Does something of it later, in place of what was to be done."""
+        self.times.set("centre", seconds, lambda: self.contain(action))
+
+    def contain(self, action):
+        """Does something of it. A fault of the bridge there ends this link alone."""
+        try:
+            action()
+        except Exception as error:
+            self.faulty(error)
+
+    def faulty(self, error):
+        """A fault was met."""
+        self.faults.tell(faults.CENTRE, self, error, "it is closed")
+        self.lose("it had a fault")
+
+    def opened(self):
         """It is open, or can't be."""
+        if self.socket is None:
+            return
         self.selector.unregister(self.socket)
         if status := self.socket.getsockopt(socket.SOL_SOCKET, socket.SO_ERROR):
             self.lose(errno.errorcode.get(status, str(status)))
@@ -51,11 +76,17 @@ class IpaClient:
         self.socket.setsockopt(socket.IPPROTO_TCP, socket.TCP_NODELAY, 1)
         number = self.socket.fileno()
         self.stream = Stream(self.selector, number, number, self.heard, lambda: self.lose("the link ended"))
+        self.stream.faulty = self.faulty
 
     def send(self, octets):
         """Sends a message of SCCP."""
-        if self.stream and self.is_ready:
-            self.stream.send(ipa.frame(SCCP, octets))
+        if self.is_ready:
+            self.put(SCCP, octets)
+
+    def put(self, stream, message):
+        """Sends a message, where the link is there."""
+        if self.stream:
+            self.stream.send(ipa.frame(stream, message))
 
     def heard(self, octets):
         """Takes octets that came; anything that comes shows that the other side is there."""
@@ -73,21 +104,24 @@ class IpaClient:
         """Takes a message of IPA's own."""
         kind = message[:1]
         if kind == ipa.PING:
-            self.stream.send(ipa.frame(ipa.OWN, ipa.PONG))
+            self.put(ipa.OWN, ipa.PONG)
         elif kind == ipa.IDENTITY_REQUEST:
-            self.stream.send(ipa.frame(ipa.OWN, self.identity(message)))
+            self.put(ipa.OWN, self.identity(message))
         elif kind == ipa.ACKNOWLEDGEMENT and not self.is_ready:
-            self.stream.send(ipa.frame(ipa.OWN, ipa.ACKNOWLEDGEMENT))
+            self.put(ipa.OWN, ipa.ACKNOWLEDGEMENT)
             self.is_ready = True
             self.watch()
             self.user.up()
 
     def identity(self, asked):
-        """Who this is: the name, for each thing that is asked for."""
-        items, at = b"", 1
+        """Who this is: the name, for each kind of thing that is asked for, once, so that there is room for all."""
+        items, at, told = b"", 1, set()
         while at + 1 < len(asked) and asked[at]:
-            text = NO_UNIT if asked[at + 1] == ipa.UNIT else self.centre.name
-            items += (len(text) + 2).to_bytes(2, "big") + bytes([asked[at + 1]]) + text.encode() + b"\0"
+            kind = asked[at + 1]
+            if kind not in told:
+                told.add(kind)
+                text = NO_UNIT if kind == ipa.UNIT else self.centre.name
+                items += (len(text) + 2).to_bytes(2, "big") + bytes([kind]) + text.encode() + b"\0"
             at += 1 + asked[at]
         return ipa.IDENTITY + items
 
@@ -95,17 +129,17 @@ class IpaClient:
         """Asks whether the other side is there where nothing comes for a while; where nothing comes then, it isn't."""
 
         def ask():
-            self.stream.send(ipa.frame(ipa.OWN, ipa.PING))
-            self.times.set("centre", self.seconds["patience"], miss)
+            self.put(ipa.OWN, ipa.PING)
+            self.later(self.seconds["patience"], miss)
 
         def miss():
-            if self.stream.pauses or self.stream.readable():
+            if self.stream and (self.stream.pauses or self.stream.readable()):
                 # what it says isn't read for a while, or lies there
                 self.watch()
             else:
                 self.lose("the centre is silent")
 
-        self.times.set("centre", self.seconds["patience"], ask)
+        self.later(self.seconds["patience"], ask)
 
     def lose(self, why):
         """It is lost, or doesn't come up: it is tried again."""
@@ -113,7 +147,7 @@ class IpaClient:
         self.close()
         if not self.is_left:
             say(f"A: no link to {self.centre.address}, port {self.centre.port}: {why}")
-            self.times.set("centre", self.seconds["retry"], self.start)
+            self.later(self.seconds["retry"], self.start)
         if was_ready:
             self.user.down()
 

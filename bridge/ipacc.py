@@ -46,9 +46,9 @@ class Said(typing.NamedTuple):
 
     type: Type
     channel: int
-    connection: bytes = None
-    local: Address = None
-    cause: str = None
+    connection: bytes | None = None
+    local: Address | None = None
+    cause: str | None = None
 
 
 def is_of_speech(message):

@@ -28,7 +28,7 @@ class Said(typing.NamedTuple):
     channel: int
     link: int
     layer_3: bytes
-    cause: int = None
+    cause: int | None = None
 
 
 def said_in(message):

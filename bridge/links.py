@@ -1,4 +1,7 @@
 """Links of stations: who is at the other end, whether it is there still, and whose turn it is."""
+import collections
+
+import faults
 import ipa
 from tell import Sayings
 
@@ -22,8 +25,10 @@ class Links:
         self.all = {}
         # those that have frames left for their next turn
         self.behind = {}
-        # what waits until all is handled that lay unread: by link up to which octet, and what is done then
+        # what waits until all is handled that lay unread: by link up to which octet, and what is done then; and what is to be done
+        # now
         self.unread = []
+        self.due: collections.deque = collections.deque()
 
     def begin(self, stream, address, peer):
         """A link begins. Where too many are strangers, the oldest of them ends."""
@@ -31,8 +36,9 @@ class Links:
         self.all[link] = None
         strangers = [it for it in self.all if it.station is None]
         if len(strangers) > MOST_STRANGERS:
-            strangers[0].refuse("too many links haven't said who they are")
-        link.begin()
+            oldest = strangers[0]
+            oldest.contain(lambda: oldest.refuse("too many links haven't said who they are"))
+        link.contain(link.begin)
         return link
 
     def forget(self, link):
@@ -42,12 +48,11 @@ class Links:
         for name in ("link", "ping", "rival"):
             self.times.forget((name, id(link)))
         self.close(link)
-        self.look()
 
     def take_turns(self):
         """Each link that has frames left has a turn."""
         for link in list(self.behind):
-            link.take_turn()
+            link.contain(link.take_turn)
 
     def pause(self, is_busy):
         """Reads nothing of any link for a while, or goes on."""
@@ -65,17 +70,14 @@ class Links:
 
     def look(self):
         """Does what waited for what is handled now."""
-        if not self.unread:
-            return
-        done = []
         for ends, action in self.unread:
             for link in [it for it, end in ends.items() if it not in self.all or it.has_handled(end)]:
                 del ends[link]
             if not ends:
-                done.append(action)
+                self.due.append(action)
         self.unread = [it for it in self.unread if it[0]]
-        for action in done:
-            action()
+        while self.due:
+            self.due.popleft()()
 
 
 class Link:
@@ -85,10 +87,11 @@ class Link:
         """`address` is where it comes from, `peer` that with its port."""
         self.links, self.relay, self.times = links, links.relay, links.times
         self.stream, self.address, self.peer = stream, address, peer
-        stream.heard, stream.ended = self.heard, self.ended
+        stream.heard, stream.ended, stream.faulty = self.heard, self.ended, self.faulty
         self.frames = ipa.Frames()
         self.station = None
-        self.is_closed = False
+        # whether it is at its end, and whether that is done with
+        self.is_ending = self.is_closed = False
         # how many octets and how many frames came, and how many times in a row it was pinged and nothing came
         self.read = self.taken = 0
         self.silent = 0
@@ -104,10 +107,28 @@ class Link:
         """Says something of it."""
         self.links.sayings.say(self.station.unit if self.station else self.address, f"{self.station or self.peer}: {text}")
 
+    def contain(self, action):
+        """Does something of it. A fault of the bridge there ends this link alone."""
+        try:
+            action()
+        except Exception as error:
+            self.faulty(error)
+
+    def faulty(self, error):
+        """A fault was met. One that is met at the link's end isn't of the link alone: calls on it may be left open."""
+        if self.is_ending:
+            raise error
+        self.relay.faults.tell(faults.STATION, self.station or self.peer, error, "the link is closed")
+        self.ended()
+
+    def later(self, name, seconds, action, gate=None):
+        """Does something of it later."""
+        self.times.set((name, id(self)), seconds, lambda: self.contain(action), gate)
+
     def close(self):
         """Closes it. What it sent behind that isn't heard."""
         if not self.is_closed:
-            self.is_closed = True
+            self.is_ending = self.is_closed = True
             self.links.forget(self)
 
     def refuse(self, why):
@@ -155,7 +176,8 @@ class Link:
             turns -= 1
             if self.is_closed:
                 return
-        is_behind = self.frames.has_whole()
+        # one that waits until another link was asked has no turn before
+        is_behind = self.frames.has_whole() and "rival" not in self.stream.pauses
         self.stream.pause("behind", is_behind)
         if is_behind:
             self.links.behind[self] = None
@@ -163,7 +185,6 @@ class Link:
             self.links.behind.pop(self, None)
         if self.station:
             self.watch_frame()
-        self.links.look()
 
     def watch_frame(self):
         """A frame that has begun has to end in time."""
@@ -227,15 +248,16 @@ class Link:
             if station.link:
                 station.link.fail("another link says that it is this unit, and this one doesn't answer")
             self.become(station)
-            self.take_turn()
+            # what it said behind that has its turn
+            self.links.behind[self] = None
 
-        station.link.ask(decide)
+        station.link.ask(lambda is_there: self.contain(lambda: decide(is_there)))
 
     def ask(self, decide):
         """Asks the other side whether it is there; what is to be decided by that is told before long."""
         self.asked = decide
         self.send(ipa.OWN, ipa.PING)
-        self.times.set(("rival", id(self)), self.links.patience / PARTS, lambda: self.answer_ask(False), self.links.once_read)
+        self.later("rival", self.links.patience / PARTS, lambda: self.answer_ask(False), self.links.once_read)
 
     def answer_ask(self, is_there):
         """The other side has answered, or hasn't in time."""
@@ -250,7 +272,7 @@ class Link:
         self.station = station
         self.relay.come(station, self)
         self.send(ipa.OWN, ipa.ACKNOWLEDGEMENT)
-        self.times.set(("ping", id(self)), self.links.patience / PARTS, self.ping)
+        self.later("ping", self.links.patience / PARTS, self.ping)
 
     # Whether it is there
 
@@ -265,7 +287,7 @@ class Link:
         elif not self.is_unread():
             self.fail(f"nothing came for {self.links.patience:g} seconds, no answer to a ping either")
         if not self.is_closed:
-            self.times.set(("ping", id(self)), self.links.patience / PARTS, self.ping)
+            self.later("ping", self.links.patience / PARTS, self.ping)
 
     def be_patient(self):
         """The other side has a while to end a frame, its first in which it says who it is. What lies unread then counts."""
@@ -274,7 +296,7 @@ class Link:
         def once_read(action):
             self.links.once_read(action, [self])
 
-        self.times.set(("link", id(self)), self.links.patience, lambda: self.lose_patience(taken), once_read)
+        self.later("link", self.links.patience, lambda: self.lose_patience(taken), once_read)
 
     def lose_patience(self, taken):
         """The other side took too long. Where nothing was read from it meanwhile, or it is another frame that isn't whole, it
@@ -295,6 +317,7 @@ class Link:
         """No more comes."""
         if self.is_closed:
             return
+        self.is_ending = True
         if self.station and self.station.link is self:
             self.relay.lose(self.station)
         elif not self.station:

@@ -24,19 +24,20 @@ class Log:
     def __init__(self, path, times):
         """`times` are told when a full disk is to be tried again."""
         self.path, self.times = path, times
-        self.file = None
+        self.file = self.opened()
         # what isn't written yet, for want of room, and how many lines there wasn't even room for here
         self.waiting = bytearray()
         self.missing = 0
         self.is_full = False
-        self.open()
+        self.go_on()
 
-    def open(self):
-        """Goes on behind what the file has. What stands behind its last line feed is no line, and is cut off."""
+    def opened(self):
+        """The file, opened."""
         flags = os.O_RDWR | os.O_CREAT | os.O_APPEND | os.O_CLOEXEC | os.O_NOCTTY | os.O_NONBLOCK
-        file, self.file = self.file, os.open(self.path, flags, 0o600)
-        if file is not None:
-            os.close(file)
+        return os.open(self.path, flags, 0o600)
+
+    def go_on(self):
+        """Goes on behind what the file has. What stands behind its last line feed is no line, and is cut off."""
         if self.is_file():
             os.fchmod(self.file, 0o600)
             if torn := self.cut(os.fstat(self.file).st_size):
@@ -46,7 +47,9 @@ class Log:
     def open_anew(self):
         """Opens the file anew, as after it was moved away; what came of that."""
         try:
-            self.open()
+            file, self.file = self.file, self.opened()
+            os.close(file)
+            self.go_on()
         except OSError as error:
             told = f"the log can't be opened anew, and goes on in the old file: {error}"
             say(told)

@@ -2,9 +2,12 @@
 as it does with its link. To the bridge it is both the link (ipa_client.py) and the connections (connections.py)."""
 import os
 import pathlib
+import subprocess
 import tempfile
+import typing
 
 import c_programs
+import faults
 import sccp
 from child import begin
 from connections import Connection, State
@@ -26,15 +29,18 @@ def build(folder, *words):
 
 
 class M3ua:
-    """The link and its connections. `user` has the methods that both tell."""
+    """The link and its connections. `user` has the methods that both tell; `met` are the faults of the bridge that were met."""
 
-    def __init__(self, selector, times, centre, seconds, user):
+    def __init__(self, selector, times, centre, seconds, user, met):
         self.selector, self.times, self.centre, self.seconds, self.user = selector, times, centre, seconds, user
+        self.faults = met
         self.folder = tempfile.TemporaryDirectory()
-        self.program = self.process = self.stream = None
+        self.program: pathlib.Path | None = None
+        self.process: subprocess.Popen | None = None
+        self.stream: Stream | None = None
         self.is_left = self.is_up = False
         self.known, self.next = {}, FIRST
-        self.takers = {
+        self.takers: dict[str, typing.Callable] = {
             "up": self.up,
             "unitdata": lambda octets: self.user.unit_data(octets),
             "asked": self.asked,
@@ -56,7 +62,13 @@ class M3ua:
             return
         lines = Lines(self.heard)
         self.stream = Stream(self.selector, reads, writes, lines.add, lambda: self.lose("the link ended"))
+        self.stream.faulty = self.faulty
         self.times.set("centre", self.seconds["patience"], lambda: self.lose("the centre's link doesn't come up"))
+
+    def faulty(self, error):
+        """A fault of the bridge was met as a line of the program was handled: that is this link's end alone."""
+        self.faults.tell(faults.CENTRE, f"A: the link to {self.centre.address}, port {self.centre.port}", error, "it is closed")
+        self.lose("it had a fault")
 
     def lose(self, why):
         """The program has ended, or doesn't come up: it is begun again."""
@@ -77,8 +89,10 @@ class M3ua:
             self.stream = None
             for number in files:
                 os.close(number)
+        if self.process:
             self.process.kill()
             self.process.wait()
+            self.process = None
 
     def leave(self):
         """Ends it for good."""

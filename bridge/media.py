@@ -8,6 +8,7 @@ nothing is in the wrong order, however long an answer takes.
 import enum
 import itertools
 import secrets
+import typing
 
 import ipacc
 import rsl
@@ -15,6 +16,9 @@ from bssmap import Cause
 from mgcp import Command, Verb
 from rtp import codec_of
 from tell import say
+
+if typing.TYPE_CHECKING:
+    from gateway import Gateway
 
 # The stages of an attempt in which its target is on (docs/BOOK.md).
 TARGET_ON = ("confirmed", "commanded", "detected")
@@ -87,7 +91,7 @@ class Media:
 
     def __init__(self, relay, times, seconds):
         self.relay, self.times, self.seconds = relay, times, seconds
-        self.gateway = None
+        self.gateway: Gateway
         # names: of this run of the bridge, and of the call
         self.run, self.numbers = secrets.token_hex(6), itertools.count(1)
         self.all = set()
@@ -344,10 +348,9 @@ class Media:
 
     def holds(self, cell, trx, message):
         """Whether a message to a station waits: a HANDOVER COMMAND of a call with speech whose target has none yet."""
-        message_type, number = rsl.on_main_link(message) or (None, None)
-        if message_type != rsl.DATA_REQUEST or message[9:11] != HANDOVER_COMMAND:
+        if not (on_link := rsl.on_main_link(message)) or on_link[0] != rsl.DATA_REQUEST or message[9:11] != HANDOVER_COMMAND:
             return False
-        talk = self.relay.talks.on(rsl.Channel(cell, trx, number))
+        talk = self.relay.talks.on(rsl.Channel(cell, trx, on_link[1]))
         leg = talk and talk.speech and talk.speech.legs.get(self.relay.talks.place(talk).target)
         if not leg or leg.stage is Stage.JOINED:
             return False

@@ -5,7 +5,7 @@ import re
 import socket
 import typing
 
-from rtp import Address
+from rtp import Address, Codec
 
 # The first line of an answer: its code and the transaction that it is about.
 FIRST_LINE = re.compile(r"(\d{3})[ \t]+0*(\d{1,9})(?:[ \t].*)?")
@@ -36,23 +36,23 @@ class Command(typing.NamedTuple):
     verb: Verb
     endpoint: str
     call: str
-    connection: str = None
-    codec: object = None
-    remote: Address = None
+    connection: str | None = None
+    codec: Codec | None = None
+    remote: Address | None = None
 
     def written(self, number):
         """Its octets, as a transaction of this number."""
         lines = [f"{self.verb.value} {number} {self.endpoint} MGCP 1.0", f"C: {self.call}"]
         if self.connection:
             lines.append(f"I: {self.connection}")
-        if self.remote:
-            lines += [f"L: p:20, a:{self.codec.text}, nt:IN", "M: sendrecv", "", *self.session()]
+        if self.remote and self.codec:
+            lines += [f"L: p:20, a:{self.codec.text}, nt:IN", "M: sendrecv", "", *self.session(self.remote, self.codec)]
         return "".join(f"{line}\r\n" for line in lines).encode()
 
-    def session(self):
+    def session(self, remote, codec):
         """The lines of the session's description."""
-        host, port = self.remote
-        payload, text = self.codec.payload, self.codec.text
+        host, port = remote
+        payload, text = codec.payload, codec.text
         return [
             "v=0",
             f"o=- {int(self.call, 16)} 0 IN IP4 {host}",
@@ -71,9 +71,9 @@ class Answer(typing.NamedTuple):
 
     code: int
     number: int
-    endpoint: str = None
-    connection: str = None
-    local: Address = None
+    endpoint: str | None = None
+    connection: str | None = None
+    local: Address | None = None
 
     @property
     def is_provisional(self):
@@ -93,7 +93,7 @@ def answers_in(octets):
     except UnicodeDecodeError as error:
         raise Unreadable("octets that are no text") from error
     lines = text.replace("\r\n", "\n").split("\n")
-    parts = [[]]
+    parts: list[list[str]] = [[]]
     for line in lines:
         if line == ".":
             parts.append([])
@@ -107,9 +107,9 @@ def answer_of(lines):
     first = lines[0] if lines else ""
     found = FIRST_LINE.fullmatch(first)
     if not found:
-        raise Unreadable(f"no answer: {''.join(it if it.isprintable() else '?' for it in first[:40])}")
+        raise Unreadable(f"no answer: {first[:40]}")
     end = lines.index("") if "" in lines else len(lines)
-    parameters = {it[1].upper(): it[2] for it in map(PARAMETER.fullmatch, lines[1:end]) if it}
+    parameters: dict[str, str] = {it[1].upper(): it[2] for it in map(PARAMETER.fullmatch, lines[1:end]) if it}
     hosts, ports = ([it[1] for it in map(form.fullmatch, lines[end:]) if it] for form in (HOST, PORT))
     return Answer(int(found[1]), int(found[2]), parameters.get("Z"), parameters.get("I"), local_of(hosts, ports))
 

@@ -105,10 +105,11 @@ class Run(Bridge):
     """A network that runs, with its centre and its stations."""
 
     def __init__(
-        self, program, room, port=None, acknowledges=True, centre=None, site=SITE, path=None, words=(), core=None, **options
+        self, program, room, port=None, acknowledges=True, centre=None, site=SITE, path=None, words=(), core=None,
+        network=FOLDER / "network", **options
     ):
         """`path` is where programs are looked for, `words` are options of the command line, `core` is the controller's command
-        without its site; others are keys of CONFIG."""
+        without its site, `network` is the bridge; others are keys of CONFIG."""
         self.centre = centre or TestCentre()
         self.centre.acknowledges = acknowledges
         self.gateway = TestGateway()
@@ -125,7 +126,7 @@ class Run(Bridge):
         config = CONFIG.format(controller=controller, timers=lines, **ports, **keys)
         (room / "config.toml").write_text(config)
         settings = f"PATH={path or os.environ['PATH']}"
-        self.run(["env", settings, FOLDER / "network", room / "config.toml", *NEVER_HANGS, *words], room)
+        self.run(["env", settings, network, room / "config.toml", *NEVER_HANGS, *words], room)
 
     def begin(self):
         """Waits for the centre; the first station, once that is there."""

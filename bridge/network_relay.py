@@ -59,7 +59,7 @@ class NetworkRelay(Relay):
         self.assignments = Assignments(self, times, seconds)
         self.ciphering, self.arrivals = Ciphering(self), Arrivals(self)
         # what the centre sent that nobody takes
-        self.passed = collections.Counter()
+        self.passed: collections.Counter = collections.Counter()
 
     def count(self, what):
         """Counts something of the centre that nobody takes; the first of a kind is told."""
@@ -83,7 +83,7 @@ class NetworkRelay(Relay):
 
     def give(self, line, giver="bridge", answered=None):
         """Gives the controller a line. Numbers of calls in lines of operators aren't given to others."""
-        if isinstance(giver, Operator):
+        if isinstance(giver, Operator) and giver.is_served:
             words = line.split()
             if words == NETWORK:
                 giver.tell(self.known())
@@ -166,9 +166,9 @@ class NetworkRelay(Relay):
         """
         if self.media.holds(cell, trx, message):
             return
-        message_type, number = rsl.about_channel(message) or (None, None)
-        if message_type == rsl.ACTIVATION:
-            talk = self.talks.on(Channel(cell, trx, number))
+        about = rsl.about_channel(message)
+        if about and about[0] == rsl.ACTIVATION:
+            talk = self.talks.on(Channel(cell, trx, about[1]))
             if talk and talk.is_awaited:
                 message = access.with_advance(message, talk.request.delay)
         super().send(cell, trx, message)

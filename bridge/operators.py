@@ -1,16 +1,24 @@
-"""Operators: what they may ask, and who is told what came of it."""
+"""Operators: what they may ask, who is told what came of it, and whose turn it is. Stations, the centre and timers come first in each
+turn of the loop: operators share what is left."""
+import collections
 import os
 import re
 import socket
 import struct
 
-from stream import MOST_WAITING, Lines, Stream
-from tell import show
+import faults
+from stream import Lines, Stream
+from tell import plain, show, shown
 
 # Keywords of what is simulated: none of it is there.
 SIMULATED = (b"report", b"answer", b"sim", b"refuse", b"hold", b"let", b"mobile", b"double", b"cut", b"hangup")
 # After how many seconds without another line an operator who has asked all is answered to the end.
 QUIET = 0.5
+# How many lines of operators are taken in a turn of the loop. A view counts as many.
+MOST_AT_ONCE = 16
+# Lines that the controller isn't asked: views, of which each may have thousands of lines, and others.
+VIEWS = (b"help", b"stations", b"calls", b"network")
+OWN = (*VIEWS, b"upgrade", b"reopen", b"watch", *SIMULATED)
 # How many lines of an input may come before it is known of which call it is.
 MOST_LINES = 100
 # How many digits the number of a call may have.
@@ -34,14 +42,79 @@ a CALL HEX: a message of the switching centre about a call
 #: nothing""".split("\n")
 
 
+class Turns:
+    """The lines of all operators, which wait for their turns."""
+
+    def __init__(self, relay):
+        self.relay = relay
+        # by operator, in the order of their turns
+        self.waiting = {}
+
+    def add(self, operator, line):
+        """A line of an operator waits; he isn't read before all of his are taken."""
+        self.waiting.setdefault(operator, collections.deque()).append(line)
+        operator.stream.pause("behind", True)
+
+    def drop(self, operator):
+        """Nothing that an operator has asked is carried out any more."""
+        self.waiting.pop(operator, None)
+
+    def next(self):
+        """The operator whose turn it is; None where each line waits until the controller has answered others."""
+        has_room = self.relay.has_room()
+        return next((it for it, lines in self.waiting.items() if has_room or is_own(lines[0])), None)
+
+    def take_turn(self):
+        """Takes lines, one of each operator after another."""
+        left = MOST_AT_ONCE
+        while left > 0 and (operator := self.next()):
+            lines = self.waiting.pop(operator)
+            line = lines.popleft()
+            if lines:
+                # those of all others come first
+                self.waiting[operator] = lines
+            left -= MOST_AT_ONCE if first_word(line) in VIEWS else 1
+            operator.contain(line)
+            operator.stream.pause("behind", operator in self.waiting)
+
+
+def first_word(line):
+    """The first word of a line, empty where it has none."""
+    return line.split(None, 1)[0] if line.strip() else b""
+
+
+def is_own(line):
+    """Whether the controller isn't asked a line."""
+    word = first_word(line)
+    return not word or word.startswith(b"#") or word in OWN
+
+
 class Operator:
     """Somebody who gives lines: at standard input, or at the control socket."""
 
+    # whether he waits behind stations
+    is_served = True
+
     def __init__(self, relay, name):
+        """Whoever makes one that asks gives it a `stream`."""
         self.relay, self.name = relay, name
+        self.stream: Stream
 
     def __str__(self):
         return self.name
+
+    def contain(self, line):
+        """Takes a line. A fault of the bridge there is the end of this line alone."""
+        try:
+            self.take(line)
+        except Exception as error:
+            self.relay.faults.tell(faults.OPERATOR, f"{self}: {shown(line)}", error, "it isn't carried out to its end")
+            self.tell(f"refused: {shown(line)}: a fault of the bridge, {type(error).__name__}")
+
+    def faulty(self, error):
+        """A fault of the bridge was met as he was read, or written to."""
+        self.relay.faults.tell(faults.OPERATOR, self, error, "he is read no more")
+        self.stream.pause("faulty", True)
 
     def take(self, line):
         """Takes a line."""
@@ -73,7 +146,7 @@ class Operator:
     def tell(self, *texts):
         """Tells lines of text."""
         for text in texts:
-            self.answer(text.encode(errors="replace"))
+            self.answer(plain(text).encode(errors="replace"))
 
     def watch(self, _words):
         """Asks for what the controller prints."""
@@ -122,17 +195,19 @@ class Client(Operator):
         self.watched = None
         connection.setblocking(False)
         number = connection.fileno()
-        lines = Lines(self.take)
+        lines = Lines(lambda line: bridge.turns.add(self, line))
         self.stream = Stream(bridge.selector, number, number, lines.add, lambda: self.ended(lines.end()))
+        self.stream.is_operators, self.stream.faulty = True, self.faulty
 
-    def take(self, line):
-        """Takes a line, unless he doesn't read what he is told."""
-        if not self.is_leaving:
-            super().take(line)
+    def faulty(self, error):
+        """A fault of the bridge was met as he was read, or written to: that is his end."""
+        super().faulty(error)
+        self.bridge.turns.drop(self)
+        self.ended(b"")
 
     def tell(self, *texts):
         """Tells lines of text, at once."""
-        self.answer("\n".join(texts).encode(errors="replace"))
+        self.answer("\n".join(map(plain, texts)).encode(errors="replace"))
 
     def watch(self, words):
         """Subscribes to what the controller prints."""
@@ -164,6 +239,9 @@ class Client(Operator):
         """Nothing more is asked: what is asked already is answered. A line without its line feed isn't carried out."""
         if rest and not self.is_leaving:
             self.refuse_torn(rest)
+        if self.stream.is_unread:
+            # he doesn't read what he is told
+            self.bridge.turns.drop(self)
         self.is_leaving = True
         self.relay.watchers.discard(self)
         self.stream.pause("leaving", True)
@@ -175,16 +253,10 @@ class Client(Operator):
 
     def leave(self):
         """Leaves, where all is answered."""
-        waits = self.stream.waiting and len(self.stream.waiting) <= MOST_WAITING
+        waits = self.stream.waiting or self in self.bridge.turns.waiting
         if waits or self.relay.is_awaited(self):
             self.leave_soon()
         else:
             self.bridge.clients.discard(self)
             self.stream.leave()
             self.connection.close()
-
-
-def shown(line):
-    """A line as it is shown: not too long, and nothing in it that a terminal obeys."""
-    text = line[:100].decode(errors="replace")
-    return "".join(it if it.isprintable() else "?" for it in text)

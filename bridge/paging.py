@@ -79,7 +79,7 @@ class Paging:
     def __init__(self, relay, times, seconds, config):
         self.relay, self.times, self.seconds, self.config = relay, times, seconds, config
         self.by_imsi, self.by_tmsi = {}, {}
-        self.counts = collections.Counter()
+        self.counts: collections.Counter = collections.Counter()
 
     def asked(self, octets):
         """PAGING came. Where the mobile is looked for already, that begins anew."""

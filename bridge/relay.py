@@ -1,21 +1,32 @@
 """The bridge itself: what comes from stations becomes lines for the controller, what the controller prints goes to stations,
 its events arm timers, and what stations leave open is closed in their place."""
+from __future__ import annotations
+
 import collections
 import re
+import typing
 
 import figures
 import rsl
 from calls import Calls, Event
 from endings import Endings
+from faults import Faults
 from lost import LostCalls
-from operators import Operator, shown
+from operators import Operator
 from rsl import Channel
 from stations import ACTIVATING, CLOSING, LEAVING, ON, RELEASING, Station, Use
-from tell import now, say, show
+from tell import now, plain, say, show, shown
 from views import Views
 
-# How many octets the controller may have to answer before nothing more is read from stations; of operators as many.
-MOST_UNREAD = 1 << 20
+if typing.TYPE_CHECKING:
+    from again import Again
+    from links import Links
+    from log import Log
+    from stream import Stream
+
+# How many octets the controller may have to answer before nothing more is read from stations; of operators as many, and so many
+# lines, so that what stations say doesn't wait behind more.
+MOST_UNREAD, MOST_ASKED = 1 << 20, 16
 # Which timer each event of a call arms, and which events end it.
 ARMING = {"command": "T3103", "require": "T7", "order": "T8"}
 DISARMING = ("complete", "undo", "left")
@@ -54,28 +65,30 @@ class Relay:
 
     def __init__(self, stations, times, seconds):
         """`seconds` has how long each timer runs; under `answer` how long a station may take to answer an activation or a
-        release, under `patience` how long a link may be silent. Whoever makes it gives it a `core`, the stream of the
-        controller, `links`, and perhaps a `log`."""
+        release, under `patience` how long a link may be silent. Whoever makes it gives it `links`, and who starts the controller
+        `again`; where that is there, a `core`, its stream; and perhaps a `log`."""
         self.stations = {station.unit: station for station in stations}
         self.places = {(station.cell, station.trx): station for station in stations}
         self.times = times
+        self.faults = Faults(times)
         self.seconds = seconds
-        self.core = None
-        self.links = None
-        self.log = None
+        self.core: Stream | None = None
+        self.links: Links
+        self.log: Log | None = None
         self.tells_messages = False
         self.watchers = set()
         # Lines that the controller has and hasn't begun to answer, each with who gave it: an operator, a station, or the
         # bridge in a station's place; and with what the station was asked that the line answers. Then both of the one that
         # the controller answers now.
-        self.given = collections.deque()
-        # how many octets those of operators have, and all others
-        self.asked = self.unanswered = 0
+        self.given: collections.deque = collections.deque()
+        # how many octets those of operators have, and all others; and how many those of operators are
+        self.asked = self.unanswered = self.questions = 0
         self.giver = self.answered = None
         # The number of the channel which a message that it answers is about.
         self.about = None
         # By number: lines that can't be read, each with who gave it, and why that is.
-        self.unreadable, self.reasons = {}, {}
+        self.unreadable: dict[int, tuple] = {}
+        self.reasons: dict[int, str] = {}
         self.unread = 0
         # The line that was answered last, and how many lines of the answer were heard, of those that a journal notes; None for
         # all of them. Whether the controller isn't there just now, so that lines wait.
@@ -85,9 +98,10 @@ class Relay:
         self.is_done = False
         # whether it has printed a line that no controller prints
         self.is_strayed = False
-        self.again = None
+        self.again: Again
         # what came of lines, by how the controller's lines begin; and events, by name and reply
-        self.counts, self.events = collections.Counter(), collections.Counter()
+        self.counts: collections.Counter = collections.Counter()
+        self.events: collections.Counter = collections.Counter()
         self.calls = Calls()
         self.lost = LostCalls(self)
         self.endings = Endings(times, seconds, self.release, self.once_read)
@@ -101,21 +115,26 @@ class Relay:
 
     def give(self, line, giver="bridge", answered=None):
         """Gives the controller a line; of a station perhaps with what it was asked that this answers."""
-        if not self.is_away and (self.core is None or self.core.is_last):
+        if not self.is_away and not self.is_taking():
             say(f"not given, the controller ends: {shown(line)}")
             return
         self.given.append((line, giver, answered))
-        self.count_given(len(line), giver)
-        if not self.is_away:
+        self.count_given(line, giver, 1)
+        if self.core and not self.is_away:
             self.core.send(line + b"\n")
             self.again.watch.await_answer()
 
-    def count_given(self, octets, giver):
-        """So many octets more, or less, are in the lines that the controller has to answer."""
-        if isinstance(giver, Operator):
-            self.asked += octets
+    def is_taking(self):
+        """Whether there is a controller that takes lines yet."""
+        return self.core is not None and not self.core.is_last
+
+    def count_given(self, line, giver, count):
+        """The controller has to answer a line more (1), or less (-1)."""
+        if isinstance(giver, Operator) and giver.is_served:
+            self.asked += count * len(line)
+            self.questions += count
         else:
-            self.unanswered += octets
+            self.unanswered += count * len(line)
 
     def is_busy(self):
         """Whether the controller has more to answer than it should, or will have. What operators ask is no matter of it."""
@@ -125,6 +144,10 @@ class Relay:
         """Whether it has more of operators to answer than it should. Where others fill what may wait they can ask still, as for
         another program in the controller's place."""
         return self.asked > MOST_UNREAD
+
+    def has_room(self):
+        """Whether the controller can be asked more by operators. One that isn't there answers nobody sooner: then all waits."""
+        return self.is_away or self.questions < MOST_ASKED
 
     def is_awaited(self, operator):
         """Whether something is yet to come of an operator's lines."""
@@ -145,7 +168,7 @@ class Relay:
     def hear(self, line):
         """Hears a line of the controller, and does what it says."""
         if line.startswith(b"end "):
-            if self.is_away or self.again.can_be_again() and not self.core.is_last:
+            if self.is_away or self.again.can_be_again() and self.is_taking():
                 # another goes on
                 return
             self.is_done = True
@@ -179,9 +202,10 @@ class Relay:
         elif asked := SENT_ON_A.fullmatch(line):
             self.lost.request(asked[1].decode(), bytes.fromhex(asked[2].decode()))
         elif came := CAME.fullmatch(line):
-            message_type, self.about = rsl.about_channel(bytes.fromhex(came[3].decode())) or (None, None)
-            if message_type == rsl.CONNECTION_FAILURE:
-                self.lost.failed(Channel(int(came[1]), int(came[2]), self.about))
+            about = rsl.about_channel(bytes.fromhex(came[3].decode()))
+            self.about = about and about[1]
+            if about and about[0] == rsl.CONNECTION_FAILURE:
+                self.lost.failed(Channel(int(came[1]), int(came[2]), about[1]))
         elif line.startswith(b"fault abis ") and self.answered:
             self.answer_for_unread(self.giver)
         elif line.startswith(b"event ") and (event := Event.of(line.decode())):
@@ -203,7 +227,7 @@ class Relay:
         if not self.given:
             return
         text, self.giver, self.answered = self.given.popleft()
-        self.count_given(-len(text), self.giver)
+        self.count_given(text, self.giver, -1)
         if line.startswith(b"line "):
             self.unreadable[int(line.split()[1])] = (text, self.giver)
         elif self.log and line.startswith(b"in "):
@@ -233,7 +257,7 @@ class Relay:
             say(f"controller: {shown(line)}")
             return
         number = int(found[1])
-        self.reasons[number] = found[2].decode(errors="replace")
+        self.reasons[number] = plain(found[2].decode(errors="replace"))
         if self.times.is_set(("reason", number)):
             self.explain(number)
 
@@ -264,6 +288,8 @@ class Relay:
         message_type, number = rsl.about_channel(message) or (None, None)
         if station is None or station.link is None:
             self.answer_absent(station, cell, trx, message)
+        elif message_type in (rsl.ACTIVATION, rsl.RELEASE) and station.state(number) == CLOSING:
+            self.answer_closing(station, number, message_type)
         elif message_type == rsl.ACTIVATION:
             self.endings.forget(station, number)
             self.await_answer(station, number, ACTIVATING)
@@ -301,6 +327,7 @@ class Relay:
         if station.state(number) not in (CLOSING, RELEASING):
             station.link.say(f"has channel {channel}, which is free here: it is sent RF CHANNEL RELEASE")
             self.times.forget((station.unit, number))
+            self.endings.forget(station, number)
             station.channels[number] = Use(CLOSING)
             self.pass_on(station, rsl.channel_message(rsl.RELEASE, number))
 
@@ -318,10 +345,22 @@ class Relay:
             say(f"no unit is named for cell {cell}, TRX {trx}: not sent {message.hex()}")
             station = Station("", cell, trx)
         message_type, number = rsl.about_channel(message) or (None, None)
+        self.answer_at_once(station, number, message_type)
+
+    def answer_at_once(self, station, number, message_type):
+        """Answers the controller, which asks for an activation or a release, and nothing is sent."""
         if message_type == rsl.ACTIVATION:
             self.say_for(station, rsl.ACTIVATION_NACK, number, rsl.FAILURE)
         elif message_type == rsl.RELEASE:
             self.say_for(station, rsl.RELEASE_ACK, number)
+
+    def answer_closing(self, station, number, message_type):
+        """Answers in the place of a station that hasn't acknowledged a channel's release: what it says yet of that channel would be
+        taken for an answer to what it is asked now. So nobody gets the channel before."""
+        station.unsent += 1
+        since = station.channels[number].since
+        station.link.say(f"channel {station.channel(number)} isn't given: its release since {since} isn't acknowledged")
+        self.answer_at_once(station, number, message_type)
 
     def await_answer(self, station, number, state):
         """The station has to answer about a channel in time."""
@@ -335,6 +374,9 @@ class Relay:
         state, channel = station.channels[number].state, station.channel(number)
         say(f"{station}: no answer about channel {channel}, which is {state}, in {self.seconds['answer']:g} seconds")
         self.answer_in_place(station, number, state)
+        if state == RELEASING and station.link:
+            # its acknowledgement is to come yet
+            station.channels[number] = Use(CLOSING)
 
     def answer_for_unread(self, station):
         """The controller can't read what a station answers, and no other answer comes."""
@@ -406,7 +448,7 @@ class Relay:
             # it was released before it was told to: nothing is kept back any more
             del station.channels[number]
             return RELEASING if self.endings.forget(station, number) else None
-        if state is None or state != ANSWERS.get(message_type):
+        if state is None or message_type not in ANSWERS or state != ANSWERS[message_type]:
             return None
         self.times.forget((station.unit, number))
         del station.channels[number]

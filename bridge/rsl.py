@@ -109,7 +109,9 @@ class Channel(typing.NamedTuple):
     @classmethod
     def of(cls, words):
         """The channel that the controller writes so."""
-        cell, trx, timeslot, half = WORDS.fullmatch(words).groups()
+        if not (found := WORDS.fullmatch(words)):
+            raise ValueError(f"no channel: {words}")
+        cell, trx, timeslot, half = found.groups()
         kind = 0x08 if half is None else 0x10 | int(half) << 3
         return cls(int(cell), int(trx), kind | int(timeslot))
 

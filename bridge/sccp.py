@@ -101,7 +101,7 @@ def part_at(octets, at):
 
 def options_at(octets, at):
     """The optional parameters that the pointer at a place points to, the first of each name."""
-    found = {}
+    found: dict[int, bytes] = {}
     if octets[at] == 0:
         return found
     at += octets[at]

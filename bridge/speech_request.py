@@ -43,8 +43,8 @@ class Wanted(typing.NamedTuple):
     kind: Kind
     rate: int
     versions: tuple
-    codecs: tuple
-    address: Address
+    codecs: tuple | None
+    address: Address | None
 
 
 def wanted_by(message):

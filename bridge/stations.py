@@ -1,14 +1,20 @@
 """What the bridge knows of the TRX of base stations, and what it says in their place."""
+from __future__ import annotations
+
 import collections
 import dataclasses
+import typing
 
 from rsl import Channel
 from tell import now
 
+if typing.TYPE_CHECKING:
+    from links import Link
+
 # How many names of messages are told apart.
 MOST_NAMES = 64
 # What a station was last told of a channel, or said of it: it activates the channel; that is on; the mobile there is sent away
-# before it is released; it releases it; the bridge itself had it released, and the controller isn't told.
+# before it is released; it releases it; it hasn't acknowledged a release, and the controller was answered in its place.
 STATES = ACTIVATING, ON, LEAVING, RELEASING, CLOSING = "activating", "on", "leaving", "releasing", "closing"
 
 
@@ -31,7 +37,7 @@ class Station:
     trx: int
     # From where it may come; from anywhere, where that is empty.
     addresses: tuple = ()
-    link: object = None
+    link: Link | None = None
     # When it came, and how often a link of it was lost.
     since: str = ""
     lost: int = 0

@@ -21,6 +21,22 @@ FEW = 64
 LONGEST_LINE = 1 << 17
 
 
+class Selector(selectors.PollSelector):
+    """What waits for octets. It knows the streams that failed while they were written to: these end in the loop, once nobody uses
+    them."""
+
+    def __init__(self):
+        super().__init__()
+        self.failed = {}
+
+    def end_failed(self):
+        """Ends those that failed."""
+        while self.failed:
+            stream = next(iter(self.failed))
+            del self.failed[stream]
+            stream.end_failed()
+
+
 class Times:
     """Things to be done later, each under a name; what is set again under a name takes the place of the older."""
 
@@ -105,16 +121,22 @@ class Stream:
         self.selector = selector
         self.reads, self.writes = reads, writes
         self.heard, self.ended, self.unread = heard, ended, unread
+        # who is told a fault of the bridge that was met while it was handled; None where that is the bridge itself
+        self.faulty = None
+        # whether it is an operator's, who waits behind all others, also to be written to
+        self.is_operators = False
         self.waiting = bytearray()
         # why nothing is read for a while
         self.pauses = set()
         self.is_last = False
+        # whether nothing can be written any more, and whether that is since too much waited
+        self.has_failed = self.is_unread = False
         self.watch()
 
     def watch(self):
         """Waits for what is of use now."""
         wanted = {}
-        if self.reads is not None and not self.pauses:
+        if self.is_readable():
             wanted[self.reads] = selectors.EVENT_READ
         if self.writes is not None and self.waiting:
             wanted[self.writes] = wanted.get(self.writes, 0) | selectors.EVENT_WRITE
@@ -133,11 +155,15 @@ class Stream:
             self.pauses ^= {why}
             self.watch()
 
+    def is_readable(self):
+        """Whether what comes is read now."""
+        return self.reads is not None and not self.pauses and (not self.has_failed or self.unread is not None)
+
     def ready(self, mask):
         """Reads or writes, where the selector says that this can be done."""
         if mask & selectors.EVENT_WRITE and self.writes is not None:
             self.flush()
-        if mask & selectors.EVENT_READ and self.reads is not None and not self.pauses:
+        if mask & selectors.EVENT_READ and self.is_readable():
             self.read()
 
     def readable(self):
@@ -160,39 +186,54 @@ class Stream:
             self.ended()
 
     def send(self, octets):
-        """Writes octets, at once or later. Where too many wait already, nobody reads them: that is the end."""
-        if self.writes is None:
+        """Writes octets, at once or later. It never ends what it belongs to, whose user goes on with it."""
+        if self.writes is None or self.has_failed:
             return
         self.waiting += octets
         if len(self.waiting) > MOST_WAITING and not self.unread:
-            self.ended()
+            # nobody reads them
+            self.fail(True)
+        elif self.is_operators:
+            self.watch()
         else:
             self.flush()
 
     def flush(self):
-        """Writes what can be written now."""
+        """Writes what can be written now, to an operator a piece of it."""
         try:
             while self.waiting:
                 del self.waiting[: os.write(self.writes, memoryview(self.waiting)[:PIECE])]
+                if self.is_operators:
+                    break
         except BlockingIOError:
             pass
         except OSError:
-            if self.unread:
-                self.waiting.clear()
-                self.shut()
-                self.unread()
-            else:
-                self.ended()
+            self.fail(False)
             return
         if not self.waiting and self.is_last:
             self.shut()
         else:
             self.watch()
 
+    def fail(self, is_unread):
+        """Nothing can be written any more: it ends in the loop, once nobody uses it."""
+        self.waiting.clear()
+        self.has_failed, self.is_unread = True, is_unread
+        self.selector.failed[self] = None
+        self.watch()
+
+    def end_failed(self):
+        """The loop ends it, or the side that is written to."""
+        if self.unread:
+            self.shut()
+            self.unread()
+        else:
+            self.ended()
+
     def finish(self):
         """Writes what waits, and then closes the side that is written to."""
         self.is_last = True
-        if self.writes is not None:
+        if self.writes is not None and not self.has_failed:
             self.flush()
 
     def shut(self):
@@ -205,6 +246,7 @@ class Stream:
 
     def leave(self):
         """Waits for nothing any more. Who opened the files closes them."""
+        self.selector.failed.pop(self, None)
         for it in {self.reads, self.writes} - {None}:
             if it in self.selector.get_map():
                 self.selector.unregister(it)
@@ -224,7 +266,7 @@ class Writer:
 
     def __init__(self, number):
         self.number = number
-        self.texts = queue.SimpleQueue()
+        self.texts: queue.SimpleQueue = queue.SimpleQueue()
         # how many octets were put there, and how many the thread has done with: each is changed by one thread alone
         self.taken = self.done = 0
         self.left_out = 0

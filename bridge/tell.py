@@ -7,6 +7,8 @@ from stream import Writer
 ERRORS, OUTPUT = Writer(2), Writer(1)
 # How many lines may be said of one peer in so many seconds.
 MOST_LINES, PERIOD = 100, 10.0
+# How many characters a line has at most.
+LONGEST = 4_000
 # Of how many peers this is counted. What is said of more of them is counted together.
 MOST_PEERS = 1000
 
@@ -16,9 +18,23 @@ def now():
     return time.strftime("%H:%M:%S")
 
 
+def plain(text):
+    """A text as it is told, wherever it is from: one line, not too long, and nothing in it that a terminal obeys, or that can't be
+    seen."""
+    told = text[:LONGEST]
+    if not told.isprintable():
+        told = "".join(it if it.isprintable() else "?" for it in told)
+    return f"{told} .." if len(text) > LONGEST else told
+
+
+def shown(line):
+    """A line as it is told in another."""
+    return plain(line[:100].decode(errors="replace"))
+
+
 def say(text):
     """Tells the operator something, with the time."""
-    ERRORS.put(f"{now()} {text}\n".encode(errors="replace"))
+    ERRORS.put(f"{now()} {plain(text)}\n".encode(errors="replace"))
 
 
 def show(line):

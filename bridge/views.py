@@ -3,12 +3,13 @@ from calls import HELD, OFF, ON, PENDING
 from stations import ACTIVATING, CLOSING, LEAVING, RELEASING
 from stations import ON as STATION_ON
 
-# How a station has a channel, for each state that the book has it in; None where the channel is at rest.
+# How a station has a channel, for each state that the book has it in; None where the channel is at rest. In a station's place the
+# controller is answered, which the book may not have yet: then the channel is closing.
 AGREEING = {
     HELD: (None, CLOSING),
-    PENDING: (ACTIVATING,),
+    PENDING: (ACTIVATING, CLOSING),
     ON: (STATION_ON,),
-    OFF: (LEAVING, RELEASING),
+    OFF: (LEAVING, RELEASING, CLOSING),
     None: (None, CLOSING),
 }
 

@@ -86,7 +86,8 @@ class Watch:
 
 def processes(group):
     """The states of a group's processes, none where they can't be read just now, and how many seconds they had of processors."""
-    states, ticks = set(), 0
+    states: set[str] = set()
+    ticks = 0
     try:
         numbers = [it for it in os.listdir("/proc") if it.isdecimal()]
     except OSError:
