@@ -1,15 +1,20 @@
 """Checks of the bridge: a fault of its own, which is put into it here, ends what was handled, alone; and whose turn it is in the loop."""
 import re
 import signal
+import subprocess
+import sys
 
 from check_again import program_that
 from check_figures import await_figure
-from harness import FIRST, FOLDER, SECOND, SLOW, Asker, must
+from harness import FIRST, FOLDER, LIMIT, SECOND, SLOW, Asker, must, needs
 from network_harness import clear, register
 from speech_harness import ASSIGN, failed, speak, start_call
 
 # What a station, or the centre, says at which a fault is met, and an operator's line.
 ODD, ODD_LINE = "0828010bfa017ed0", "frobnicate"
+# The modules that hold links, and what is under way on them.
+HOLDING = ("links", "relay", "network_relay", "stations", "ipa_client", "m3ua", "connections", "a_side", "gateway", "media")
+HOLDING += ("stream", "operators", "bridge", "again", "child", "faults", "tell", "log")
 # How many operators there are, and how many lines each has.
 CROWD, LINES = 30, 300
 
@@ -208,5 +213,23 @@ def lines_wait(start, room, _program):
     bridge.wait(0)
 
 
-CHECKS = [at_a_station, at_a_timer_of_a_link, at_a_line, at_the_controller, operators_wait, lines_wait]
+# What is looked for
+
+
+def typed(_start, room, _program):
+    """In the modules that hold links nothing is used that may be None then, as far as mypy sees that."""
+    needs("mypy", "mypy")
+    words = ["mypy", "--check-untyped-defs", "--cache-dir", room / "cache", *(f"{name}.py" for name in HOLDING)]
+    ran = subprocess.run(words, cwd=FOLDER, capture_output=True, text=True, timeout=LIMIT)
+    must(ran.returncode == 0, f"mypy says: {ran.stdout}{ran.stderr}")
+
+
+def fuzzed(_start, _room, program):
+    """All sides try to end the bridge for ten seconds, by seeds that stay the same (tools/fuzz-bridge)."""
+    words = [sys.executable, FOLDER.parent / "tools" / "fuzz-bridge", program, "--seed", "1", "--seconds", "10"]
+    ran = subprocess.run(words, capture_output=True, text=True, timeout=LIMIT)
+    must(ran.returncode == 0 and re.search("^[1-9][0-9]* lives met, 0 not$", ran.stdout, re.MULTILINE), f"{ran.stdout}{ran.stderr}")
+
+
+CHECKS = [at_a_station, at_a_timer_of_a_link, at_a_line, at_the_controller, operators_wait, lines_wait, typed, fuzzed]
 OF_NETWORK = [at_the_centre, at_the_gateway]

@@ -6,6 +6,7 @@ import types
 
 import access
 from air import Air
+from faults import Faults
 from gateway import Gateway
 from harness import must
 from mgcp import Answer, Command, Verb
@@ -85,7 +86,7 @@ def transactions_are_bounded(_start, _room, _program):
     with selectors.DefaultSelector() as selector, socket.socket(socket.AF_INET, socket.SOCK_DGRAM) as other:
         other.bind(("127.0.0.1", 0))
         settings = types.SimpleNamespace(address="127.0.0.1", port=other.getsockname()[1], domain="mgw")
-        gateway = Gateway(selector, clock, settings, {"gateway": 3.0, "gateway-repeat": 0.5})
+        gateway = Gateway(selector, clock, settings, {"gateway": 3.0, "gateway-repeat": 0.5}, Faults(clock))
         # what it says of a gateway that is silent is no matter of this
         gateway.say = lambda _text: None
         for _ in range(20):
