@@ -1,6 +1,7 @@
 """Processes that the bridge begins. Where the bridge is killed they are too, whatever they do: one that is stopped would stay, with
 the lock of its journal."""
 import contextlib
+import functools
 import os
 import signal
 import subprocess
@@ -46,12 +47,11 @@ def pipe(opened):
 def with_parent(parent):
     """What a process does before it becomes another program, so that it is killed with its parent; None where that isn't to be had.
     Other threads are no matter of it: it waits for nothing that they may have."""
-    if (prctl := PRCTL) is None:
-        return None
+    return functools.partial(follow, PRCTL, parent) if PRCTL else None
 
-    def act():
-        prctl(PR_SET_PDEATHSIG, int(signal.SIGKILL), 0, 0, 0)
-        if os.getppid() != parent:
-            os._exit(1)
 
-    return act
+def follow(prctl, parent):
+    """Has this process killed with its parent, and ends it where that is gone."""
+    prctl(PR_SET_PDEATHSIG, int(signal.SIGKILL), 0, 0, 0)
+    if os.getppid() != parent:
+        os._exit(1)
