@@ -1,8 +1,13 @@
 """Scenes of bridge/telephones: telephones that call one another, speak, and move."""
+import statistics
+
 from core_network import CELLS, CENTRE_TERMINAL, OSMO_CELLS, OSMO_TERMINAL, ask
 from harness import must
-from show import ANOTHER, KNOWN, NUMBERS
+from show import ANOTHER, KNOWN, MOST_MOVING, NUMBERS
 from telephone import DISCONNECT, LET_GO, PAGED, PAGED_EITHER, TO_CALL_HALF, Moving, call, hang_up
+
+# How many frames more than at osmo-bsc half of the handovers may cost.
+FEW_MORE = 10
 
 
 def begin(show, cells=(0, 1)):
@@ -67,20 +72,24 @@ def goes(show, one, cell):
 def within(show):
     """A call moves to the controller's other cell, and back."""
     one, two = begin(show)
-    for cell in (1, 0):
-        show.speak(one, two, lambda: goes(show, one, cell))
+
+    def moves(cell):
+        goes(show, one, cell)
         show.expect(one, "^event complete .* -> done$")
-        show.hear(one, two)
+
+    show.each_way(one, two, lambda: moves(1), lambda: moves(0))
     end(show, one, two)
 
 
 def between(show):
     """A call moves to another controller, by the centre, and back."""
     one, two = begin(show)
-    for run in (show.second, show.run):
-        show.speak(one, two, lambda: goes(show, one, 64))
+
+    def moves(run):
+        goes(show, one, 64)
         show.expect_of(run, "^event complete .* -> done$")
-        show.hear(one, two)
+
+    show.each_way(one, two, lambda: moves(show.second), lambda: moves(show.run))
     must(show.bridge_of(one)[0] is show.run, "it isn't back")
     end(show, one, two)
 
@@ -90,10 +99,12 @@ def comes_back(show):
     each time speech goes on."""
     one, two = begin(show)
     one.moving = Moving.COMES_BACK
-    for cell in (1, 64):
-        show.speak(one, two, lambda: goes(show, one, cell))
+
+    def moves(cell):
+        goes(show, one, cell)
         show.expect(one, "^event undo .* -> record")
-        show.hear(one, two)
+
+    show.each_way(one, two, lambda: moves(1), lambda: moves(64))
     show.expect_of(show.second, "^event undo .* -> record")
     end(show, one, two)
 
@@ -215,7 +226,7 @@ def the_gateway_is_lost(show):
     call doesn't come about; once it is back, one does."""
     one, two = begin(show)
     show.around.kill("mgw")
-    said, lost = show.speak(one, two)
+    said, lost = show.count(one, two)
     must(min(lost) > min(said) - 10, f"speech goes on without a gateway: {lost} of {said} are lost")
     hang_up(one, two)
     one.dial(NUMBERS[ANOTHER])
@@ -241,17 +252,22 @@ def from_osmo_bsc(show):
 
 
 def beside_osmo_bsc(show):
-    """How many frames a handover within a controller costs: here, and at osmo-bsc. The other telephone is at a third one."""
+    """How many frames a handover within a controller costs: here, and at osmo-bsc. The other telephone is at a third one. Half of
+    the handovers here cost a few, and few more than there."""
     ways = (
         ("this controller", (0, 1), lambda one, cell: goes(show, one, cell)),
         ("osmo-bsc", OSMO_CELLS, comes_to),
     )
+    usual = []
     for name, cells, moves in ways:
         one, two = begin(show, (cells[0], 2))
         costs = [show.speak(one, two, lambda: moves(one, cells[(place + 1) % 2]), 1.0)[1] for place in range(10)]
         for way, lost in zip(("of the one that moves", "of the other"), zip(*costs)):
             print(f"bridge/telephones:   {name}: frames {way} that a handover costs: {sorted(lost)}", flush=True)
+        usual.append([statistics.median(lost) for lost in zip(*costs)])
         end(show, one, two)
+    for here, there in zip(*usual):
+        must(here <= min(MOST_MOVING, there + FEW_MORE), f"a handover costs {here} frames, and {there} at osmo-bsc")
 
 
 def comes_to(one, cell):

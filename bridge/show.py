@@ -10,6 +10,7 @@ import time
 from core_network import CELLS, GATEWAY, GATEWAY_TERMINAL, ask
 from handset import Handset
 from harness import FOLDER, Bridge, Unmet, must
+from speech import PERIOD
 from telephone import Telephone
 
 # Subscribers that the register knows, with their numbers, and one that it doesn't know.
@@ -20,6 +21,9 @@ EMPTY = 40
 # How many frames of two seconds' speech, which are a hundred, have to be said, and how many may be lost; and how often they may
 # speak until it is so.
 LEAST_SAID, MOST_LOST, TRIES = 90, 10, 5
+# Which part of what is said is heard at least each time, also while a call moves, and on a busy machine; and how many frames a
+# move may cost, once a busy machine had more time. A gateway that doesn't make one stream of two stations' costs some 40.
+HEARD_PART, MOST_MOVING = 2, 25
 # A controller that says which process it is, and doesn't begin, or go on, while it is held.
 CONTROLLER = """#!/bin/sh
 echo $$ > "{folder}/process"
@@ -196,7 +200,7 @@ class Show:
         run.ask(line.replace("CALL", str(number)))
         return number
 
-    def speak(self, one, two, during=None, seconds=2.0):
+    def count(self, one, two, during=None, seconds=2.0):
         """Two telephones speak for so long, and something is done meanwhile; how many frames were said, and how many of them
         each didn't hear."""
         begun = one.voice.said, two.voice.said
@@ -214,6 +218,27 @@ class Show:
         text = f"of {said[0]} frames {lost[0]} aren't heard, of {said[1]} the other way {lost[1]}"
         print(f"bridge/telephones:   {text}", flush=True)
         return said, lost
+
+    def speak(self, one, two, during=None, seconds=2.0):
+        """The same; speech goes on, whatever is done meanwhile, or where that is the move of a call."""
+        said, lost = self.count(one, two, during, seconds)
+        must(min(said) >= seconds / PERIOD / 2, f"they say {said} frames")
+        must(all(missing <= of // HEARD_PART for of, missing in zip(said, lost)), f"{lost} frames of {said} are lost")
+        return said, lost
+
+    def each_way(self, one, two, *ways):
+        """Telephones speak while one is moved in several ways, one behind the other, and hear one another behind each. Each way costs
+        few frames. A busy machine is given more time: all ways are gone again, until each has cost so few."""
+        dear = dict(enumerate(ways))
+        for _ in range(TRIES):
+            for place, way in enumerate(ways):
+                _, lost = self.speak(one, two, way)
+                self.hear(one, two)
+                if max(lost) <= MOST_MOVING:
+                    dear.pop(place, None)
+            if not dear:
+                return
+        raise Unmet(f"the ways {list(dear)} cost over {MOST_MOVING} frames each time")
 
     def hear(self, one, two, during=None):
         """Two telephones speak for two seconds, and hear one another, but for a few frames. A busy machine is given more time.
