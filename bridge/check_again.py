@@ -1,5 +1,5 @@
 """Checks of the bridge: its controller is killed, hangs, or is replaced, and goes on over its journal (again.py). The
-controller is the program with a journal around it (test_controller.py)."""
+controller is the program with a journal around it (test_controller.py), or with its own (killed_controller.py)."""
 import contextlib
 import os
 import random
@@ -14,8 +14,9 @@ from harness import FIRST, FOLDER, LIMIT, SECOND, SITE, SLOW, Asker, LeftOut, ch
 from network_harness import NOTHING
 from test_controller import record
 
-# The controller for tests; at which stages it is killed at each line; and how often that may be.
-CONTROLLER = FOLDER / "test_controller.py"
+# The controller for tests, and that with the program's own journal; at which stages they are killed at each line; and how often
+# that may be.
+CONTROLLER, REAL = FOLDER / "test_controller.py", FOLDER / "killed_controller.py"
 STAGES = ("noted", "torn", "1", "2", "99")
 OFTEN = ("--again", "1000")
 # However long it then takes until each line is done, no timer runs out.
@@ -36,9 +37,9 @@ def program_that(room, name, text):
     return path
 
 
-def controller(room, program, name="controller", first=""):
+def controller(room, program, name="controller", first="", around=CONTROLLER):
     """A command `NAME live SITE --journal journal`, in a folder; `first` are lines of the shell that come before."""
-    return program_that(room, name, f'#!/bin/sh\n{first}\nexec "{CONTROLLER}" "{program}" "$@"\n')
+    return program_that(room, name, f'#!/bin/sh\n{first}\nexec "{around}" "{program}" "$@"\n')
 
 
 def journaled(start, room, program, *options, again=OFTEN, first="", **others):
@@ -134,16 +135,18 @@ def compare(whole, killed):
         must(wanted == killed[what], f"{what} differs:\n    {wanted}\n    {killed[what]}")
 
 
-def killed_at(stage):
+def killed_at(stage, around=CONTROLLER):
     """A check that kills the controller at a stage of each line."""
 
     def check(start, room, program):
+        if around == REAL:
+            needs_journal(room, program)
         results = []
         for name, places in (("whole", []), ("killed", everywhere(stage))):
             inner = room / name
             inner.mkdir()
             plan(inner / "journal", *places)
-            bridge = start("--log", inner / "log", *OFTEN, *UNHURRIED, core=command_in(inner, program))
+            bridge = start("--log", inner / "log", *OFTEN, *UNHURRIED, core=command_in(inner, program, around))
             results.append(played(bridge, inner, program))
         kills = sum("is started again" in line for line in bridge.said.lines)
         lines = sum(line.startswith(("in ", "line ")) for line in bridge.out.lines)
@@ -152,8 +155,9 @@ def killed_at(stage):
         must(noted == kills, f"the log says that of {noted}")
         compare(*results)
 
-    check.__name__ = f"killed_at_{stage}"
-    check.__doc__ = f"The controller is killed at each line before it notes it, and at the stage {stage}: nothing comes of that."
+    whose = "with the program's own journal" if around == REAL else "with a journal for tests"
+    check.__name__ = f"killed_at_{stage}" + ("_of_its_own" if around == REAL else "")
+    check.__doc__ = f"The controller, {whose}, is killed at each line before it has noted it, and at the stage {stage}, in vain."
     return check
 
 
@@ -202,9 +206,9 @@ def kill_often(bridge):
                 os.kill(child(bridge), signal.SIGKILL)
 
 
-def command_in(room, program):
+def command_in(room, program, around=CONTROLLER):
     """A controller's command whose journal is in a folder."""
-    return (controller(room, program), "live", SITE, "--journal", room / "journal")
+    return (controller(room, program, around=around), "live", SITE, "--journal", room / "journal")
 
 
 def without_pings(stations):
@@ -625,7 +629,7 @@ def leave_open(bridge, is_on):
     bridge.process.wait(LIMIT)
 
 
-KILLED = [killed_at(stage) for stage in STAGES]
+KILLED = [killed_at(stage, around) for around in (CONTROLLER, REAL) for stage in STAGES]
 CHECKS = [*KILLED, really_killed, dies_each_time, a_slow_one, not_upgraded, upgraded, no_journal, another_journal]
 CHECKS += [asks_for_a_summary, begun_anew, killed_as_it_begins, full_disk, upgraded_while_it_hangs]
 CHECKS += [much_while_it_is_away, ends_while_it_is_away]
