@@ -227,8 +227,8 @@ class Show:
         return said, lost
 
     def each_way(self, one, two, *ways):
-        """Telephones speak while one is moved in several ways, one behind the other, and hear one another behind each. Each way costs
-        few frames. A busy machine is given more time: all ways are gone again, until each has cost so few."""
+        """Telephones speak while one is moved in several ways, one behind the other, and hear one another behind each. Each way
+        costs few frames. A busy machine is given more time: all ways are gone again, until each has cost so few."""
         dear = dict(enumerate(ways))
         for _ in range(TRIES):
             for place, way in enumerate(ways):
