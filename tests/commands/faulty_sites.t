@@ -611,3 +611,25 @@ Cells that can't carry a call; the first of several checks that fail; numbers pa
   [2]
   $ cat errors
   faulty.toml:* ncc: * (glob)
+
+Timeslots that also carry halves: the last site has one of half behind nine of tch, of which some stand twice.
+
+  $ sed -z 's/tch = \[2, 3]/tch = [2, 3], half = [3, 4]/' site.toml >faulty.toml
+  $ ./lab run faulty.toml /dev/null 2>errors
+  site 3 half
+  [2]
+  $ cat errors
+  faulty.toml:* half: * (glob)
+  $ sed -z 's/tch = \[2, 3]/tch = [2, 8], half = [4]/' site.toml >faulty.toml
+  $ ./lab run faulty.toml /dev/null 2>errors
+  site 3 tch
+  [2]
+  $ cat errors
+  faulty.toml:* tch: * (glob)
+  $ sed -z 's/tch = \[2, 3]/tch = [3, 3, 3, 3, 3, 3, 3, 3, 3, 2], half = [2]/' site.toml >faulty.toml
+  $ ./lab run faulty.toml /dev/null 2>errors
+  site 4 slot
+  [2]
+  $ cat errors
+  faulty.toml: *: tch: * (glob)
+

@@ -244,3 +244,54 @@ Octets that are no message, and the first thing that is wrong with them.
   $ ./lab decode abis 0828010b1b00190004000b0000 2>/dev/null
   fault abis 4 11
   [2]
+
+Channel numbers (9.3.1): the first and the last of each kind of traffic channel, and numbers beside them, which are of none.
+
+  $ for number in 07 08 0f 10 17 18 1f 20 ff; do ./lab decode abis "082e01$number" 2>/dev/null; done
+  fault abis 4 1
+  RF CHANNEL RELEASE tn=0
+  RF CHANNEL RELEASE tn=7
+  RF CHANNEL RELEASE tn=0/0
+  RF CHANNEL RELEASE tn=7/0
+  RF CHANNEL RELEASE tn=0/1
+  RF CHANNEL RELEASE tn=7/1
+  fault abis 4 1
+  fault abis 4 1
+  [2]
+
+Where an element is cut: one of two octets and one of three, one without its length, and one of two octets of length; with a
+list that is too short; behind an element whose list is empty.
+
+  $ for octets in 01 010b0812 010b1a 010b1a01 010b0b 010b0b00 010b1a000b010007; do ./lab decode abis "0824$octets" 2>/dev/null; done
+  fault abis 5 2
+  fault abis 5 4
+  fault abis 5 4
+  fault abis 5 4
+  fault abis 5 4
+  fault abis 5 4
+  fault abis 5 6
+  [2]
+
+Numbers of two octets, and a list whose length has two, with an element behind it.
+
+  $ ./lab decode abis 0822010b08fffe
+  CHANNEL ACTIVATION ACK tn=3 frame=65534
+  $ ./lab encode abis 'CHANNEL ACTIVATION ACK tn=3 frame=65534'
+  0822010b08fffe
+  $ long=$(printf '2a%.0s' $(seq 258))
+  $ ./lab decode abis "030102000b0102${long}010b" | sed "s/$long/258 octets/"
+  DATA REQUEST tn=3 link=0 layer3=258 octets
+  $ ./lab encode abis "DATA REQUEST tn=3 link=0 layer3=$long" | sed "s/$long/ and 258 octets/"
+  0301010b02000b0102 and 258 octets
+
+A list whose length has one octet is read with each length, and written as it was read.
+
+  $ for length in $(seq 255); do
+  >   list=$(printf '2a%.0s' $(seq "$length"))
+  >   printf '0821010b030006%02x%s\n' "$length" "$list" >>octets
+  >   echo "CHANNEL ACTIVATION tn=3 activation=0 mode=$list reference=-" >>words
+  >   printf '0828010b1b0019%02x%s0400\n' "$length" "$list" >>octets
+  >   echo "MEASUREMENT RESULT tn=3 number=0 uplink=$list power=0 layer3=-" >>words
+  > done
+  $ ./lab decode abis --from octets 2>/dev/null | sed 's/^[0-9]* //' | cmp - words
+  $ while read -r text; do ./lab encode abis "$text"; done <words | cmp - octets

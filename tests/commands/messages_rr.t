@@ -177,3 +177,21 @@ Octets that are no message, and the first thing that is wrong with them.
   $ ./lab decode rr 062bd56743a36b2a05 2>/dev/null
   fault rr 4 2
   [2]
+  $ ./lab decode rr 062bd5671bb36b2a05 2>/dev/null
+  fault rr 4 3
+  [2]
+
+Channel types (10.5.2.5): of the full rate, and the two of the half rate, with the first and the last timeslot.
+
+  $ command() { echo "HANDOVER COMMAND arfcn=871 ncc=2 bcc=5 tn=$1 tsc=5 carrier=875 reference=42 atc=0 power=5"; }
+  $ for octets in 08 0b 0f 10 13 17 18 1f; do ./lab decode rr "062bd567${octets}a36b2a05"; done >read
+  $ for tn in 0 3 7 0/0 3/0 7/0 0/1 7/1; do command "$tn"; done | cmp - read
+  $ while read -r text; do ./lab encode rr "$text"; done <read
+  062bd56708a36b2a05
+  062bd5670ba36b2a05
+  062bd5670fa36b2a05
+  062bd56710a36b2a05
+  062bd56713a36b2a05
+  062bd56717a36b2a05
+  062bd56718a36b2a05
+  062bd5671fa36b2a05

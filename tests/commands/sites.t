@@ -194,6 +194,12 @@ stands in another's place each time.
   [2]
   $ cat errors
   refused.toml: handover: window: a value of the kind float isn't a number of reports from 1 to 32
+  $ sed -z 's/arfcn = 875/arfcn = 1024/' site.toml >refused.toml
+  $ ./lab run refused.toml /dev/null 2>errors
+  site 3 arfcn
+  [2]
+  $ cat errors
+  refused.toml: cell 1, trx 1: arfcn: 1024 isn't a carrier from 0 to 1023
 
 Of a text that is no TOML the line and the column are said; a byte order mark is passed over.
 
@@ -220,6 +226,10 @@ The site is looked at before the script.
 
   $ printf 'no line\n' >script.txt
   $ printf '' >refused.toml
+  $ ./lab run refused.toml script.txt 2>/dev/null
+  site 2 handover
+  [2]
+  $ printf '  # nothing\n' >refused.toml
   $ ./lab run refused.toml script.txt 2>/dev/null
   site 2 handover
   [2]

@@ -54,6 +54,52 @@ The line is that of the last comment that expects something.
   # came: out abis 0 0 0821010b0300060400010801
   [1]
 
+For any lines none may stand, or some of which one is like the line behind them.
+
+  $ printf 'undo 1\n#> in undo 1\n#> event undo 1 asked -> refused 1\n#> ..\nundo 2\n' >none.txt
+  $ printf 'sim\ndouble 0 0 3\nopen 1 0 0 3\n#> ..\n#> in abis 0 0 0822010b080000\n#> event confirm 0/0/3 -> refused 8 0/0/3\nundo 2\n' >some.txt
+  $ ./lab test examples/two_cells.toml none.txt some.txt
+  1..2
+  ok 1 - none.txt
+  ok 2 - some.txt
+  $ printf 'open 1 0 0 3\n#> ..\n#> event open 1 0/0/3 -> done\nundo 2\n' >script.txt
+  $ ./lab test examples/two_cells.toml script.txt
+  1..1
+  not ok 1 - script.txt
+  # line 3
+  # expected nothing more
+  # came: out abis 0 0 0821010b0300060400010801
+  [1]
+
+The echo of the line may be left out, that of the second controller too, but no other input.
+
+  $ printf 'undo 1\n#> 1: event undo 1 asked -> refused 1\n2: undo 1\n#> 2: event undo 1 asked -> refused 1\n' >script.txt
+  $ ./lab test examples/two_cells.toml script.txt --peer examples/one_cell.toml
+  1..1
+  ok 1 - script.txt
+  $ printf 'sim\nopen 1 0 0 3\n#> event open 1 0/0/3 -> done\n#> out abis 0 0 0821010b0300060400010801\n#> event confirm 0/0/3 -> owned 1\n' >script.txt
+  $ ./lab test examples/two_cells.toml script.txt
+  1..1
+  not ok 1 - script.txt
+  # line 5
+  # expected: event confirm 0/0/3 -> owned 1
+  # came: in abis 0 0 0822010b080000
+  [1]
+
+A line of which less comes than is expected; comments that expect nothing, and one that expects two dots behind a blank.
+
+  $ printf 'undo 1\n#> in undo 1\n#> event undo 1 asked -> refused 1\n#> b\nundo 2\n# > c\nundo 3\n#>  ..\nundo 4\n' >script.txt
+  $ ./lab test examples/two_cells.toml script.txt 2>/dev/null
+  1..1
+  not ok 1 - script.txt
+  # line 4
+  # expected: b
+  # came nothing more
+  # line 8
+  # expected:  ..
+  # came: event undo 3 asked -> refused 1
+  [1]
+
 A line that doesn't come.
 
   $ printf 'open 1 0 0 3\n#> ..\n#> out a 1 00\nclear 1\n' >script.txt
@@ -82,6 +128,33 @@ A script without lines has its end.
   $ ./lab test examples/two_cells.toml script.txt
   1..1
   ok 1 - script.txt
+
+Of two lines at the end of a trace both are expected, or none.
+
+  $ printf 'undo 1\n#> 1: in undo 1\n#> 1: event undo 1 asked -> refused 1\n' >none.txt
+  $ sed '$a #> 1: end channels=0 calls=0 references=0 timers=0' none.txt >one.txt
+  $ sed '$a #> 2: end channels=0 calls=0 references=0 timers=0' one.txt >both.txt
+  $ ./lab test examples/two_cells.toml none.txt one.txt both.txt --peer examples/one_cell.toml
+  1..3
+  ok 1 - none.txt
+  not ok 2 - one.txt
+  # line 4
+  # expected nothing more
+  # came: 2: end channels=0 calls=0 references=0 timers=0
+  ok 3 - both.txt
+  [1]
+
+Names and texts are printed with escapes, so that each stands in one line, and that of a test as TAP has it.
+
+  $ name=$(printf 'a#\\b\nc\177')
+  $ printf 'undo 1\n#> \033[31m\t#\\\nundo 2\n' >"$name"
+  $ ./lab test examples/two_cells.toml "$name"
+  1..1
+  not ok 1 - a\#\\b\nc\u{7f}
+  # line 2
+  # expected: \u{1b}[31m\t#\
+  # came: event undo 1 asked -> refused 1
+  [1]
 
 A line can't be read.
 
