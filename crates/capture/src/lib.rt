@@ -1,5 +1,9 @@
 //! The messages of a run as a capture file, which Wireshark opens without settings.
 //!
+//! Of a live controller these are the messages that it was given and that it said, and not what went over the links. A bridge
+//! answers in the place of stations that say nothing or aren't there. It keeps messages back, changes some and drops some. So a
+//! packet from a station's address may never have come from that station.
+//!
 //! Each message is one packet, a segment of TCP in an internet datagram: on Abis in a frame of IPA on port 3003, on A in
 //! SCCP unitdata in a frame of IPA on port 5000. Sequence numbers go on, so that no packet looks like one that is sent
 //! again. Addresses tell the link, where N is 1, of a second controller 2:
