@@ -149,7 +149,9 @@ def two_calls(top, rt, write, *without, command=("rt", "ci")):
     have. Returns what the last call counted, with what the first refused and the last didn't."""
     crates, first = listed(top), Call()
     names = {name for name in crates if TAIL not in below(crates, name)}
-    if names and has_room(rt):
+    if names and not has_room(rt):
+        write(f"proving: one call, since {os.path.dirname(rt.STORE)} has less than {ROOM:.0f} GB of room for what is kept\n")
+    elif names:
         number = jobs(rt)
         write(f"proving: {len(names)} crates, with RT_JOBS={number}, and then all {len(crates)}\n")
         with tempfile.TemporaryDirectory() as room:
