@@ -140,6 +140,17 @@ def at_the_gateway(start, room, _program):
     run.end()
 
 
+def numbers_again(start, room, _program):
+    """Of numbers for calls there are but four: each mobile's is free once its call is over, however many come."""
+    words = f"import runpy, sys; sys.dont_write_bytecode = True; sys.path.insert(0, {str(FOLDER)!r}); import talks"
+    run_it = f"talks.NUMBERS = 4; runpy.run_path({str(FOLDER / 'network')!r}, run_name='__main__')"
+    run = start(network=program_that(room, "network", f"#!/usr/bin/env python3\n{words}; {run_it}\n"))
+    station = run.begin()
+    for place in range(6):
+        clear(run, station, *register(run, station, reference=f"e{place}0ad1"))
+    run.end()
+
+
 # Whose turn it is
 
 
@@ -232,4 +243,4 @@ def fuzzed(_start, _room, program):
 
 
 CHECKS = [at_a_station, at_a_timer_of_a_link, at_a_line, at_the_controller, operators_wait, lines_wait, typed, fuzzed]
-OF_NETWORK = [at_the_centre, at_the_gateway]
+OF_NETWORK = [at_the_centre, at_the_gateway, numbers_again]
