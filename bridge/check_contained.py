@@ -231,7 +231,8 @@ def typed(_start, room, _program):
     """In the modules that hold links nothing is used that may be None then, as far as mypy sees that."""
     needs("mypy", "mypy")
     words = ["mypy", "--check-untyped-defs", "--cache-dir", room / "cache", *(f"{name}.py" for name in HOLDING)]
-    ran = subprocess.run(words, cwd=FOLDER, capture_output=True, text=True, timeout=LIMIT)
+    # without what it keeps of a run before it takes twenty seconds, and longer beside others
+    ran = subprocess.run(words, cwd=FOLDER, capture_output=True, text=True, timeout=3 * LIMIT)
     must(ran.returncode == 0, f"mypy says: {ran.stdout}{ran.stderr}")
 
 
