@@ -2,6 +2,7 @@ mod audits;
 mod both_tables;
 mod channels;
 mod choices;
+mod courses;
 mod desk;
 mod desk_memory;
 mod foreign;
@@ -151,6 +152,16 @@ fn channel_at(place: u16) -> ChanId {
         tn: (place % 8) as u8,
         sub: Sub::Full,
     }
+}
+
+// The same by a timeslot's parts too: the whole of it, then its halves.
+fn part_at(place: u16) -> ChanId {
+    let sub = match place % 3 {
+        0 => Sub::Full,
+        1 => Sub::Half0,
+        _ => Sub::Half1,
+    };
+    channel_at(place / 3).part(sub)
 }
 
 // The places below a count but for some.

@@ -4,9 +4,9 @@ mod viewed;
 
 use cell_table::Site;
 use live_runs::{LiveFault, Rules, live_run};
+use run_listeners::LivePrinting;
 use radio_book::book::Book;
 use refusing_heap::RefusingHeap;
-use run_listeners::LivePrinting;
 use sample_sites::THREE_CHANNELS as SITE;
 use std::alloc::{AllocError, Global};
 use std::io::{self, BufReader, ErrorKind, Read};
@@ -193,8 +193,23 @@ fn run_by(alloc: Global, reader: Piecewise<'_>) -> Result<(Result<(), LiveFault>
     Ok((ended, out))
 }
 
-/// A reader fails within a line: what came before is handled, and why it failed is answered. (That lines come in pieces of any
-/// length `tests/commands/live.t` shows.)
+/// Lines come in pieces of any length.
+#[test]
+fn lines_come_in_pieces(rt: HostRuntime) -> Result<(), Fail> {
+    for piece in 1..9 {
+        let reader = Piecewise {
+            octets: LINES.as_bytes(),
+            piece,
+            fails: false,
+        };
+        let (ended, out) = run_by(rt.alloc(), reader)?;
+        holds(&rt, ended.is_ok(), "it ends");
+        holds(&rt, str::from_utf8(&out)? == TRACE, "the trace");
+    }
+    Ok(())
+}
+
+/// A reader fails within a line: what came before is handled, and why it failed is answered.
 #[test]
 fn a_failing_read_is_told(rt: HostRuntime) -> Result<(), Fail> {
     let reader = Piecewise {

@@ -35,6 +35,10 @@ impl<T: Tables> Sound<T> {
         self.records.step(event)
     }
 
+    pub(super) fn tables(&self) -> &T {
+        self.records.tables()
+    }
+
     pub(super) fn chosen(&self, call: u16) -> u8 {
         self.records.choose_number(call)
     }
