@@ -308,8 +308,7 @@ class Bridge:
         self.pause()
 
     def take_what_comes(self, seconds):
-        """Waits so long for something, and takes what comes: each socket once; but for what comes of operators, which is given back.
-        """
+        """Waits so long for something, and takes what comes, each socket once; what comes of operators is given back."""
         operators = []
         for key, mask in self.selector.select(seconds):
             if isinstance(key.data, Stream) and key.data.is_operators:
@@ -337,8 +336,8 @@ class Bridge:
             self.pause()
 
     def end_faulty(self, error):
-        """A fault of the bridge was met where it isn't of one peer alone: what it knows may be wrong, and it ends. Where there are too
-        many meanwhile it ends at once."""
+        """A fault of the bridge was met where it isn't of one peer alone: what it knows may be wrong, and it ends. Where there are
+        too many meanwhile it ends at once."""
         self.relay.faults.tell(faults.BRIDGE, "bridge", error, "what it knows may be wrong, and it ends")
         self.is_faulty = True
         if self.relay.faults.counts[faults.BRIDGE] > MOST_FAULTS:

@@ -145,8 +145,8 @@ def red_gateway(start, _room, _program):
 
 
 def red_stations(start, room, _program):
-    """A station says that it is a unit by such characters, as many as a frame has; an operator asks by them: in no line do they stand,
-    and none is longer than a page."""
+    """A station says that it is a unit by such characters, as many as a frame has; an operator asks by them: in no line do they
+    stand, and none is longer than a page."""
     odd = RED + "\a\b\r\x7f\x9b2J\u202e"
     bridge = start("--control", "control")
     for unit in (odd, odd * 3_000):

@@ -135,8 +135,8 @@ def unread_answer(start, _room, _program):
 
 
 def lost_release(start, _room, _program):
-    """A station doesn't acknowledge a release: that is done in its place, and nobody gets the channel before the station has, or its
-    link has ended: an activation meanwhile is refused, nothing is sent, and `calls` says since when."""
+    """A station doesn't acknowledge a release: that is done in its place, and nobody gets the channel before the station has, or
+    its link has ended: an activation meanwhile is refused, nothing is sent, and `calls` says since when."""
     bridge = start("--answer", SLOW)
     station = bridge.station(FIRST)
     station.unanswered = {rsl.RELEASE}
@@ -203,8 +203,9 @@ class LateStation(TestStation):
 
 
 def stale_answer(start, _room, _program):
-    """A station doesn't answer an activation in time, so it is refused in its place, and released; the channel is opened again. Then
-    come the answer to the first activation, that to the release, and a refusal of another, if there was one: station and book agree."""
+    """A station doesn't answer an activation in time, so it is refused in its place, and released; the channel is opened again.
+    Then come the answer to the first activation, that to the release, and a refusal of another, if there was one: station and book
+    agree."""
     bridge = start("--answer", SLOW)
     station = LateStation(bridge.port, FIRST)
     must(station.known.wait(LIMIT), "it isn't acknowledged")

@@ -1,4 +1,5 @@
-"""Checks of the bridge: a fault of its own, which is put into it here, ends what was handled, alone; and whose turn it is in the loop."""
+"""Checks of the bridge: a fault of its own, which is put into it here, ends what was handled, alone; whose turn it is in the loop;
+and what mypy and a fuzzer find."""
 import re
 import signal
 import subprocess
@@ -12,6 +13,8 @@ from speech_harness import ASSIGN, failed, speak, start_call
 
 # What a station, or the centre, says at which a fault is met, and an operator's line.
 ODD, ODD_LINE = "0828010bfa017ed0", "frobnicate"
+# How a bridge begins into which something is put.
+BEGIN = f"#!/usr/bin/env python3\nimport runpy, sys\nsys.dont_write_bytecode = True\nsys.path.insert(0, {str(FOLDER)!r})"
 # The modules that hold links, and what is under way on them.
 HOLDING = ("links", "relay", "network_relay", "stations", "ipa_client", "m3ua", "connections", "a_side", "gateway", "media")
 HOLDING += ("stream", "operators", "bridge", "again", "child", "faults", "tell", "log")
@@ -21,8 +24,8 @@ CROWD, LINES = 30, 300
 
 def faulty(room, where, name="abis"):
     """A bridge into which faults are put: of each function, as relay.Relay.receive, where it fails, told by its words."""
-    lines = ["#!/usr/bin/env python3", "import runpy, sys", "sys.dont_write_bytecode = True", f"sys.path.insert(0, {str(FOLDER)!r})"]
-    lines += ["def failing(function, fails):", "    def it(*words):", "        if fails(*words):", "            raise RuntimeError('put in')"]
+    lines = [BEGIN, "def failing(function, fails):", "    def it(*words):"]
+    lines += ["        if fails(*words):", "            raise RuntimeError('put in')"]
     lines += ["        return function(*words)", "    return it"]
     for function, fails in where.items():
         lines += [f"import {function.split('.')[0]}", f"{function} = failing({function}, {fails})"]
@@ -30,17 +33,12 @@ def faulty(room, where, name="abis"):
 
 
 def told(who, then):
-    """The line by which a fault is told."""
-    return f"{who}: a fault of the bridge, RuntimeError at {name_of_this()}:\\d+ in it .put in.: {then}$"
-
-
-def name_of_this():
-    """The file in which the fault is met, which is that of the bridge here."""
-    return "(?:abis|network)"
+    """The line by which a fault is told; it is met in the file that puts it in."""
+    return rf"{who}: a fault of the bridge, RuntimeError at (?:abis|network):\d+ in it .put in.: {then}$"
 
 
 def at_a_station(start, room, _program):
-    """A fault is met while a station's octets are handled: its link ends alone, which is told and counted, and it can come back."""
+    """A fault is met while a station's octets are handled: its link ends alone, which is told and counted; it can come back."""
     abis = faulty(room, {"relay.Relay.receive": f"lambda _relay, _station, _stream, message: message.hex() == {ODD!r}"})
     bridge = start("--figures", "figures", "--figures-every", "0.1", abis=abis)
     one, other = bridge.station(FIRST), bridge.station(SECOND, trx=1)
@@ -74,7 +72,7 @@ def at_a_timer_of_a_link(start, room, _program):
 
 
 def at_a_line(start, room, _program):
-    """A fault is met while an operator's line is handled: it isn't carried out, he is told, and asks on; that is told and counted."""
+    """A fault is met while an operator's line is handled: it isn't carried out, he is told, and asks on; it is told and counted."""
     abis = faulty(room, {"operators.Operator.take": f"lambda _operator, line: line == b{ODD_LINE!r}"})
     bridge = start("--figures", "figures", "--figures-every", "0.1", "--control", "control", abis=abis)
     operator = Asker(room / "control")
@@ -122,8 +120,8 @@ def at_the_centre(start, room, _program):
 
 
 def at_the_gateway(start, room, _program):
-    """A fault is met while an answer of the gateway is handled: that transaction is given up, as if it wasn't answered, and the next
-    one goes on."""
+    """A fault is met while an answer of the gateway is handled: that transaction is given up, as if it wasn't answered, and the
+    next one goes on."""
     where = {"media.Media.answered": "lambda _media, _speech, _side, _remote, answer: bool(answer) and answer.code == 299"}
     network = faulty(room, where, "network")
     run = start(words=("--figures", room / "figures", "--figures-every", "0.1"), network=network)
@@ -156,11 +154,10 @@ def numbers_again(start, room, _program):
 
 def marked(room):
     """A bridge that says when times are looked at, when a line of an operator is taken, and when a station's message is."""
-    lines = ["#!/usr/bin/env python3", "import runpy, sys", "sys.dont_write_bytecode = True", f"sys.path.insert(0, {str(FOLDER)!r})"]
-    lines += ["import operators, relay, stream, tell", "def marked(function, mark):", "    def it(*words):", "        tell.say(mark)"]
-    lines += ["        return function(*words)", "    return it"]
-    for function, mark in (("stream.Times.run_due", "TIMES"), ("operators.Client.take", "LINE"), ("relay.Relay.receive", "STATION")):
-        lines += [f"{function} = marked({function}, 'mark {mark}')"]
+    lines = [BEGIN, "import operators, relay, stream, tell", "def marked(function, mark):", "    def it(*words):"]
+    lines += ["        tell.say(mark)", "        return function(*words)", "    return it"]
+    marked = {"stream.Times.run_due": "TIMES", "operators.Client.take": "LINE", "relay.Relay.receive": "STATION"}
+    lines += [f"{function} = marked({function}, 'mark {mark}')" for function, mark in marked.items()]
     return program_that(room, "abis", "\n".join([*lines, f"runpy.run_path({str(FOLDER / 'abis')!r}, run_name='__main__')", ""]))
 
 
@@ -170,8 +167,8 @@ def marks(bridge):
 
 
 def crowd(start, room, line):
-    """A bridge with a station, and a crowd of operators, who came before that, and of whom each has asked the same many times, while
-    the bridge was stopped; the station has said something behind that."""
+    """A bridge with a station, and a crowd of operators, who came before that, and of whom each has asked the same many times,
+    while the bridge was stopped; the station has said something behind that."""
     bridge = start("--control", "control", abis=marked(room))
     operators = [Asker(room / "control") for _ in range(CROWD)]
     for operator in operators:
@@ -196,8 +193,8 @@ def longest_turn(bridge, before):
 
 
 def operators_wait(start, room, _program):
-    """Thirty operators ask for views, many times each: what a station says meanwhile is handled first, and in each turn of the loop
-    there is one view, behind all else that came, and the times."""
+    """Thirty operators ask for views, many times each: what a station says meanwhile is handled first, and in each turn of the
+    loop there is one view, behind all else that came, and the times."""
     bridge, operators, before = crowd(start, room, "calls")
     bridge.said.expect(" mark STATION$")
     taken = marks(bridge)[before:]
@@ -211,8 +208,8 @@ def operators_wait(start, room, _program):
 
 
 def lines_wait(start, room, _program):
-    """They give lines to the controller: in each turn of the loop it gets sixteen at most, and no more before it has answered these;
-    so what the station says is in front of nearly all of them, and each operator has his turn."""
+    """They give lines to the controller: in each turn of the loop it gets sixteen at most, and no more before it has answered
+    these; so what the station says is in front of nearly all of them, and each operator has his turn."""
     bridge, operators, before = crowd(start, room, "abis 0 0 0822010d")
     line = "in abis 0 0 0822010d"
     early = bridge.out.lines[: bridge.out.lines.index("in abis 0 0 0822010c")].count(line)
@@ -240,7 +237,8 @@ def fuzzed(_start, _room, program):
     """All sides try to end the bridge for ten seconds, by seeds that stay the same (tools/fuzz-bridge)."""
     words = [sys.executable, FOLDER.parent / "tools" / "fuzz-bridge", program, "--seed", "1", "--seconds", "10"]
     ran = subprocess.run(words, capture_output=True, text=True, timeout=LIMIT)
-    must(ran.returncode == 0 and re.search("^[1-9][0-9]* lives met, 0 not$", ran.stdout, re.MULTILINE), f"{ran.stdout}{ran.stderr}")
+    is_met = ran.returncode == 0 and re.search("^[1-9][0-9]* lives met, 0 not$", ran.stdout, re.MULTILINE)
+    must(is_met, f"{ran.stdout}{ran.stderr}")
 
 
 CHECKS = [at_a_station, at_a_timer_of_a_link, at_a_line, at_the_controller, operators_wait, lines_wait, typed, fuzzed]

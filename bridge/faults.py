@@ -1,6 +1,6 @@
-"""Faults of the bridge itself: an exception that is met while something of one peer is handled. It is told in a line, counted by its
-place, and ends what was handled, alone. One that is met elsewhere, as while the controller's lines are handled, ends the bridge:
-what it knows may be wrong then (bridge.py)."""
+"""Faults of the bridge itself: an exception that is met while something of one peer is handled. It is told in a line, counted by
+its place, and ends what was handled, alone. One that is met elsewhere, as while the controller's lines are handled, ends the
+bridge: what it knows may be wrong then (bridge.py)."""
 import pathlib
 import traceback
 

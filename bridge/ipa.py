@@ -13,9 +13,9 @@ IDENTITY = b"\x05"
 ACKNOWLEDGEMENT = b"\x06"
 # The number of a unit, among what a station may be asked to say of itself.
 UNIT = 0x08
+ASKED = (UNIT, 0x07, 0x02, 0x03, 0x04, 0x05, 0x01, 0x00)
 # More of a unit isn't of use: none that is known is so long.
 LONGEST_UNIT = 100
-ASKED = (UNIT, 0x07, 0x02, 0x03, 0x04, 0x05, 0x01, 0x00)
 
 
 def frame(stream, message):

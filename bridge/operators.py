@@ -1,5 +1,5 @@
-"""Operators: what they may ask, who is told what came of it, and whose turn it is. Stations, the centre and timers come first in each
-turn of the loop: operators share what is left."""
+"""Operators: what they may ask, who is told what came of it, and whose turn it is. Stations, the centre and timers come first in
+each turn of the loop: operators share what is left."""
 import collections
 import os
 import re

@@ -355,8 +355,8 @@ class Relay:
             self.say_for(station, rsl.RELEASE_ACK, number)
 
     def answer_closing(self, station, number, message_type):
-        """Answers in the place of a station that hasn't acknowledged a channel's release: what it says yet of that channel would be
-        taken for an answer to what it is asked now. So nobody gets the channel before."""
+        """Answers in the place of a station that hasn't acknowledged a channel's release: what it says yet of that channel would
+        be taken for an answer to what it is asked now. So nobody gets the channel before."""
         station.unsent += 1
         since = station.channels[number].since
         station.link.say(f"channel {station.channel(number)} isn't given: its release since {since} isn't acknowledged")

@@ -1,5 +1,5 @@
-"""What is around the bridge, for tools/fuzz-bridge: stations, the centre's side, the media gateway and operators, each of which says what
-it may and, at random, what it may not. Nobody waits for anything: each says something at its step, and answers what came."""
+"""What is around the bridge, for tools/fuzz-bridge: stations, the centre's side, the media gateway and operators, each of which
+says what it may and, at random, what it may not. Nobody waits for anything: each says something at its step, and answers what came."""
 import contextlib
 import itertools
 import socket
@@ -17,6 +17,8 @@ from test_gateway import TestGateway
 UNITS = ("6969/0/0", "6970/0/0")
 # The channels of each station, by their numbers on Abis, and others.
 CHANNELS, OTHERS = ("09", "0a"), ("0b", "08", "11", "ff", "88")
+# What the centre says to mobiles, by DTAP, on several links.
+DTAP = ("01000305180a", "010006052401020304", "0103040901050a", "01010209aa", "0100020613", f"01000e{ACCEPT}")
 # A script of a link is cut at one of so many octets.
 OCTETS = 400
 # What becomes of a link where it is cut.
@@ -316,7 +318,7 @@ class Centre:
         other = self.chance.choice([*self.connections, "000001"])
         own = self.connections.get(other, "000001")
         asked = f"{next(self.own):06x}"
-        dtap = self.chance.choice(("01000305180a", "010006" + "052401020304", "0103040901050a", "01010209aa", "0100020613", f"01000e{ACCEPT}"))
+        dtap = self.chance.choice(DTAP)
         data = self.chance.choice((ASSIGN, ASSIGN, CLEAR, CIPHER, "000158", dtap, dtap, dtap, COMMAND, REJECT, "00012f", REQUEST))
         rows = (
             (20, f"06{other}0001{len(data) // 2:02x}{data}"),
@@ -519,10 +521,11 @@ class Operators:
     def line(self):
         """A line."""
         call, channel = self.chance.randrange(1, 6), self.chance.choice(CHANNELS)
-        lines = ("calls", "stations", "network", "summary", "help", "watch", "watch off", f"watch {call}", "reopen", "upgrade /nowhere")
-        lines += (f"open {call} {self.chance.randrange(2)} 0 {self.chance.randrange(4)}", f"handover {call} {self.chance.randrange(2)}")
-        lines += (f"handover {call} 64", f"undo {call}", f"clear {call}", f"expire {call} {self.chance.choice(('T3103', 'T7', 'T8'))}")
-        lines += (f"abis 0 0 0833{'01'}{channel}", f"a {call} {CLEAR}", "nonsense", "\x1b[31m", "sim x", "a 1 zz", "#", "", " ")
+        cell, timeslot, timer = self.chance.randrange(2), self.chance.randrange(4), self.chance.choice(("T3103", "T7", "T8"))
+        lines = ("calls", "stations", "network", "summary", "help", "watch", "watch off", f"watch {call}", "reopen")
+        lines += ("upgrade /nowhere", f"open {call} {cell} 0 {timeslot}", f"handover {call} {cell}", f"handover {call} 64")
+        lines += (f"undo {call}", f"clear {call}", f"expire {call} {timer}", f"abis 0 0 083301{channel}", f"a {call} {CLEAR}")
+        lines += ("nonsense", "\x1b[31m", "sim x", "a 1 zz", "#", "", " ")
         return self.chance.choice(lines)
 
     def answer(self):

@@ -187,7 +187,7 @@ class Life:
         self.bridge.run()
         left = [line for line in tell.OUTPUT.lines if line.startswith("end ")]
         if left != ["end channels=0 calls=0 references=0 timers=0"]:
-            return f"something is left: {left}"
+            return f"something is left: {left}, {self.bridge.relay.calls.channels}"
         if self.bridge.relay.media.all or self.bridge.relay.talks.by_number:
             return f"the bridge knows calls yet: {[*self.bridge.relay.talks.by_number]}, {self.bridge.relay.media.all}"
         return self.wrong_at_the_end()
@@ -199,7 +199,7 @@ class Life:
 
     def last_words(self):
         """What was done last, and what the bridge said then."""
-        return [*self.done[-12:], "it said last:", *tell.ERRORS.lines[-15:], "it printed last:", *tell.OUTPUT.lines[-8:]]
+        return [*self.done[-12:], "it said last:", *tell.ERRORS.lines[-15:], "it printed last:", *tell.OUTPUT.lines]
 
     def stop(self):
         """Ends what is there yet."""
