@@ -1,9 +1,11 @@
 """Checks of the bridge: calls, their timers, and what stations leave open."""
+import os
+import signal
 import subprocess
 import time
 
 import rsl
-from harness import CHANNEL, FIRST, LIMIT, SECOND, SITE, SLOW, is_kind, must
+from harness import CHANNEL, FIRST, LIMIT, SECOND, SITE, SLOW, child, is_kind, must
 from station import TestStation
 
 
@@ -132,6 +134,32 @@ def unread_answer(start, _room, _program):
         bridge.expect(f"^event clear {call} -> done$")
     bridge.end()
     must(sum(line == "in abis 0 0 0823010b1a0120" for line in bridge.out.lines) == 2, "it is refused again")
+
+
+def unread_and_released(start, _room, _program):
+    """A station's answer to an activation can't be read, and the controller had the channel released before it came to that: the
+    station is sent one release, and its one acknowledgement frees the channel."""
+    bridge = start()
+    station = bridge.station(FIRST)
+    station.unanswered = {rsl.ACTIVATION, rsl.RELEASE}
+    bridge.ask("open 1 0 0 3")
+    must(station.await_message(is_kind(rsl.ACTIVATION)), "no activation")
+    os.kill(child(bridge), signal.SIGSTOP)
+    bridge.ask("clear 1")
+    bridge.ask("stations")
+    # the line in front of the view is given by then
+    bridge.expect("^station 6969/0/0 ")
+    station.say(bytes.fromhex("0822010b"))
+    station.settle()
+    os.kill(child(bridge), signal.SIGCONT)
+    bridge.expect("^out abis 0 0 082e010b$", "^in abis 0 0 0822010b$", "^fault abis ")
+    must(station.await_message(is_kind(rsl.RELEASE)), "no release at the station")
+    station.say(rsl.channel_message(rsl.RELEASE_ACK, CHANNEL))
+    bridge.expect("^event released 0/0/3 -> done$")
+    bridge.ask("calls")
+    bridge.expect("^no channel is in use$")
+    bridge.end()
+    must(station.count(is_kind(rsl.RELEASE)) == 1, "it is sent another release")
 
 
 def lost_release(start, _room, _program):
@@ -541,6 +569,7 @@ CHECKS = [
     timers_on_a,
     lost_activation,
     unread_answer,
+    unread_and_released,
     lost_release,
     stale_answer,
     lost_links,

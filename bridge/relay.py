@@ -379,11 +379,13 @@ class Relay:
             station.channels[number] = Use(CLOSING)
 
     def answer_for_unread(self, station):
-        """The controller can't read what a station answers, and no other answer comes."""
+        """The controller can't read what a station answers, and no other answer comes. Where it has had the channel released since,
+        it awaits that of the release."""
         state, number = self.answered, self.about
         if station.link:
             station.link.say(f"its answer about channel {station.channel(number)}, which is {state}, can't be read")
-        self.answer_in_place(station, number, state)
+        if station.state(number) in (None, ON):
+            self.answer_in_place(station, number, state)
 
     def answer_in_place(self, station, number, state):
         """A station is answered for, and a channel that it may have activated yet is released."""
