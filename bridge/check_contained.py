@@ -19,7 +19,7 @@ BEGIN = f"#!/usr/bin/env python3\nimport runpy, sys\nsys.dont_write_bytecode = T
 HOLDING = ("links", "relay", "network_relay", "stations", "ipa_client", "m3ua", "connections", "a_side", "gateway", "media")
 HOLDING += ("stream", "operators", "bridge", "again", "child", "faults", "tell", "log")
 # How many operators there are, and how many lines each has.
-CROWD, LINES = 30, 300
+CROWD, LINES = 30, 40
 
 
 def faulty(room, where, name="abis"):
