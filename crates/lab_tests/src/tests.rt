@@ -14,8 +14,8 @@ mod storm_runs;
 mod tested;
 mod viewed;
 
-use lab::run::{Status, lab_run};
 use lab::LabFault;
+use lab::run::{Status, lab_run};
 use refusing_heap::RefusingHeap;
 use sample_sites::THREE_CHANNELS as SITE;
 use std::alloc::{Allocator, Global};

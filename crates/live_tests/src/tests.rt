@@ -4,9 +4,9 @@ mod viewed;
 
 use cell_table::Site;
 use live_runs::{LiveFault, Rules, live_run};
-use run_listeners::LivePrinting;
 use radio_book::book::Book;
 use refusing_heap::RefusingHeap;
+use run_listeners::LivePrinting;
 use sample_sites::THREE_CHANNELS as SITE;
 use std::alloc::{AllocError, Global};
 use std::io::{self, BufReader, ErrorKind, Read};

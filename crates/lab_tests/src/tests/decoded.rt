@@ -1,8 +1,8 @@
 use super::failing::Failing;
 use super::{equals_at, holds_at};
+use lab::LabFault;
 use lab::decoded::{LinkName, decode_run};
 use lab::run::Status;
-use lab::LabFault;
 use refusing_heap::RefusingHeap;
 use std::alloc::{Allocator, Global};
 use std::process::Abort;

@@ -1,8 +1,8 @@
 use super::equals_at;
 use super::failing::Failing;
+use lab::LabFault;
 use lab::decoded::LinkName;
 use lab::encoded::encode_run;
-use lab::LabFault;
 use refusing_heap::RefusingHeap;
 
 /// A message in words.

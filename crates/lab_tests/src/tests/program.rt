@@ -1,7 +1,7 @@
 use super::equals_at;
 use super::failing::Failing;
-use lab::program::perform;
 use lab::LabFault;
+use lab::program::perform;
 
 /// What stands on standard input.
 const STDIN: &[u8] = b"";

@@ -1,8 +1,8 @@
 //! Runs over a heap that refuses a request, and to a writer that fails.
 use super::failing::Failing;
 use super::{ONE_CALL, SITE, equals_at, holds_at, is_whole_or_cut, printed};
-use lab::run::{Status, lab_run};
 use lab::LabFault;
+use lab::run::{Status, lab_run};
 use refusing_heap::RefusingHeap;
 use sample_sites::{NO_TRAFFIC, PEER, SAME_IDENTITY};
 use std::alloc::Global;

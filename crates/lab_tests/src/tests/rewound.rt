@@ -1,7 +1,7 @@
 use super::{SITE, ends_so, holds_at, is_whole_or_cut};
+use lab::LabFault;
 use lab::rewound::rewind_run;
 use lab::run::Status;
-use lab::LabFault;
 use refusing_heap::RefusingHeap;
 use std::alloc::{Allocator, Global};
 use std::process::Abort;

@@ -1,16 +1,16 @@
 //! A run is printed with words, and with what was decided, where memory is refused. What is printed then `views.t` and
 //! `decisions.t` of `tests/commands` show.
 use super::{SITE, holds_at, is_whole_or_cut};
-use lab::run::{Status, run_for};
 use lab::LabFault;
+use lab::run::{Status, run_for};
 use refusing_heap::RefusingHeap;
 use run_views::Viewer;
-use view_options::Views;
 use std::alloc::{Allocator, Global};
 use std::io::Write;
 use std::process::Abort;
 use std::str;
 use std::test::Fail;
+use view_options::Views;
 
 /// Words, and what was decided by reports.
 const SHOWN: Views<'_> = Views {

@@ -1,10 +1,9 @@
 use super::failing::Failing;
 use super::{equals_at, holds_at, remove_files, write_files};
 use lab::run::Status;
-use lab::LabFault;
 use lab::storm::{Reached, StormJob, Watch, print_figures, storm_file};
-use lab::storm_run;
 use lab::words::StormSize;
+use lab::{LabFault, storm_run};
 use radio_desk::audit::Audit;
 use radio_desk::tally::Tally;
 use refusing_heap::{Refusals, RefusingHeap};

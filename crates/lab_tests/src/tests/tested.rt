@@ -2,9 +2,9 @@
 use super::failing::Failing;
 use super::{SITE, equals_at, holds_at, is_whole_or_cut};
 use expectations::Recording;
+use lab::LabFault;
 use lab::recorded::record_run;
 use lab::run::Status;
-use lab::LabFault;
 use lab::tested::{Numbered, test_run};
 use refusing_heap::RefusingHeap;
 use std::alloc::{Allocator, Global};

@@ -1,15 +1,15 @@
 //! The files of a run's views where its trace can't be written.
 use super::failing::Failing;
 use super::{ONE_CALL, SITE, equals_at, holds_at, remove_files, write_files};
-use lab::files::run_files;
 use lab::LabFault;
+use lab::files::run_files;
 use lab::site_files::SitePaths;
 use lab::words::Ending;
-use view_options::Views;
 use std::fs;
 use std::process::Abort;
 use std::rt::Files;
 use std::test::Fail;
+use view_options::Views;
 
 /// The files of a run and of its views, in the folder that the test runs in.
 const SITE_FILE: &str = "viewed.toml";

@@ -2,18 +2,18 @@
 //! printed as in a trace without views.
 use super::{RULES, common_lines, fresh_book, holds};
 use exchange::Outbound;
-use run_listeners::{LabFault, Listener};
 use live_runs::{LiveFault, live_run};
 use octet_elements::Octets;
 use refusing_heap::RefusingHeap;
+use run_listeners::{LabFault, Listener};
 use run_views::{LiveViewer, open_sheets};
-use view_options::Views;
 use std::io::Write;
 use std::process::Abort;
 use std::rt::Files;
 use std::str;
 use std::test::Fail;
 use trace_text::trace::Mark;
+use view_options::Views;
 
 /// Both views that are printed, and no file.
 const VIEWS: Views<'_> = Views {

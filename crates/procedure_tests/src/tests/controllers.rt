@@ -1,7 +1,7 @@
 //! Controllers for tests, and what they are given: lines of scripts.
 use cell_table::Site;
-use ho_procedure::controller::Controller;
 use exchange::{Inbound, Outbound};
+use ho_procedure::controller::Controller;
 use ho_procedure::solo::Solo;
 use ho_procedure::view::DeskView;
 use lab_script::script::{Given, Item, read_script};

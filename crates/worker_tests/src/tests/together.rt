@@ -4,8 +4,8 @@ use super::offices::{
     Course, Hall, Left, at_an_office, empty_desk, give_all, inputs_of, sent_lines, shared_site,
 };
 use crate::bag::Taken;
-use ho_procedure::controller::Controller;
 use exchange::{Inbound, Outbound};
+use ho_procedure::controller::Controller;
 use ho_procedure::solo::Solo;
 use radio_book::event::{Event, Reply};
 use radio_desk::desk::Desk;
