@@ -1,51 +1,34 @@
 //! The folder of a journal.
-use crate::names::{BEGUN, LOCK, is_beside, number_of, path_of, span_path};
-use std::alloc::{AllocError, Global};
-use std::fs::{self, File, OpenFile, OpenOptions, TryLockError};
+//!
+//! It is a handle: its files are those of the folder that was opened, also where that was moved, and another stands at its path.
+ghost use Rattle.std.specs.Prelude.{OnOk, IfOk};
+ghost use Rattle.std.specs.Io.KnownBytes.{Appends};
+ghost use Rattle.journal_files.specs.Journals.{IsHanded};
+
+use crate::listing::{Listing, listing_of};
+use crate::locking::Locking;
+use crate::names::{BEGUN, LOCK, handle_path, path_of, span_name};
+use std::alloc::AllocError;
+use std::fs::{self, File, OpenFile, OpenOptions};
 use std::io::{self, Read, Write};
-use std::os::unix::fs::OpenOptionsExt;
+use std::os::unix::fs::{MetadataExt, OpenOptionsExt};
 use std::rt::Files;
-use std::str;
 
-/// A file that one process alone can have for itself, until it ends.
-pub trait Locking {
-    /// Has it, unless another process does. The answer is whether this one has it now.
-    fn hold(&self) -> io::Result<bool>;
-}
-
-impl Locking for File {
-    fn hold(&self) -> io::Result<bool> {
-        match self.try_lock() {
-            Ok(()) => Ok(true),
-            Err(TryLockError::WouldBlock) => Ok(false),
-            Err(TryLockError::Error(error)) => Err(error),
-        }
-    }
-}
-
-/// What is in the folder of a journal.
-#[derive(Drop)]
-pub struct Listing {
-    /// Behind which lines its files begin, in their order.
-    pub spans: Vec<u64>,
-    /// The names of files that aren't the journal's.
-    pub others: Vec<String>,
-}
-
-/// A folder that one controller has for itself, as long as both are open: the folder, and the file `lock` in it. Who removes that
-/// file doesn't give the folder away.
-#[derive(Drop)]
-pub struct Locked<F> {
-    _folder: F,
-    _file: F,
-}
-
-/// The folder of a journal.
+/// The folder of a journal, which one controller has for itself as long as this is there: the folder, and the file `lock` in
+/// it. Who removes that file doesn't give the folder away.
 #[derive(Drop)]
 pub struct Folder<'a, R: Files + AllocGlobal> {
     rt: &'a R,
+    /// The path by which it was opened.
     path: &'a str,
+    folder: R::File,
+    lock: R::File,
+    /// The path by which the system knows the opened folder; nothing where it has none.
+    handle: Option<String>,
 }
+
+/// Its owner alone may read and write a file.
+const FOR_OWNER: u32 = 0o600;
 
 /// The path of the folder in which a folder is.
 fn parent_of(path: &str) -> &str {
@@ -56,70 +39,93 @@ fn parent_of(path: &str) -> &str {
     }
 }
 
-/// How many octets of names are read at once.
-const NAMES: usize = 8_192;
-
-/// Its owner alone may read and write a file.
-const FOR_OWNER: u32 = 0o600;
-
-/// The name that octets are, with what isn't UTF-8 replaced.
-fn shown_name(alloc: Global, name: &[u8]) -> Result<String, AllocError> {
-    match str::from_utf8(name) {
-        Ok(name) => String::from_str(alloc, name),
-        Err(_) => String::from_str(alloc, "?"),
+/// Whether a call failed since the disk is full, or what the user may have of it.
+pub(crate) fn is_want_of_room(error: io::Error) -> bool {
+    match error.kind() {
+        io::ErrorKind::StorageFull | io::ErrorKind::QuotaExceeded => true,
+        _ => false,
     }
 }
 
-/// Enters the name of a file.
-fn enter(alloc: Global, listing: &mut Listing, name: &[u8]) -> Result<(), AllocError> {
-    let name = shown_name(alloc, name)?;
-    if name.is_empty() || name.as_str() == "." || name.as_str() == ".." || is_beside(&name) {
-        return Ok(());
-    }
-    match number_of(&name) {
-        Some(number) => Ok(listing.spans.push(number)?),
-        None => Ok(listing.others.push(name)?),
-    }
+/// The folder at the path isn't the one that was locked.
+fn moved() -> io::Error {
+    io::Error::new(
+        io::ErrorKind::StaleNetworkFileHandle,
+        "the folder at this path isn't the one that was locked",
+    )
 }
 
-/// All octets of the names in a folder, each ended by a NUL.
-fn names_in<D: Read>(alloc: Global, dir: &mut D) -> io::Result<Vec<u8>> {
-    let mut names = Vec::new(alloc);
-    let mut room = Vec::new(alloc);
-    room.resize(NAMES, 0u8)?;
-    for _ in 0..u64::MAX {
-        let read = dir.read(room.as_mut_slice())?;
-        if read == 0 {
-            break;
-        }
-        names.extend_from_slice(&room[..read])?;
-    }
-    Ok(names)
+/// Whether a call failed since the folder at the path isn't the one that was locked.
+pub(crate) fn is_moved(error: io::Error) -> bool {
+    error.kind() == io::ErrorKind::StaleNetworkFileHandle
 }
 
 /// Writes the octets of a file, and has them on the disk.
-fn write_synced<F: Write + OpenFile>(file: &mut F, octets: &[u8]) -> io::Result<()> {
+fn write_synced<F: Write + OpenFile>(file: &mut F, octets: &[u8]) -> io::Result<()>
+    ensures written { OnOk result (Appends (F.contents file.old) (F.contents file.new) octets.now) }
+{
     file.write_all(octets)?;
     file.sync_all()
 }
 
-impl<'a, R: Files + AllocGlobal> Folder<'a, R> {
-    /// The folder of this path.
-    pub fn new(rt: &'a R, path: &'a str) -> Folder<'a, R> {
-        Folder { rt, path }
+/// Whether what was opened stands at a path; not where that can't be known.
+fn stands_at<R: Files>(rt: &R, opened: &R::File, path: &str) -> bool {
+    match (rt.metadata(path), opened.metadata()) {
+        (Ok(there), Ok(here)) => there.dev() == here.dev() && there.ino() == here.ino(),
+        _ => false,
     }
+}
 
-    /// Makes the folder, and those above it, unless it is there, and has its name on the disk. The answer is whether it has:
-    /// not where the folder above can't be synced. Who may not read it can't, and nobody can on some file systems.
-    pub fn make(&self) -> io::Result<bool> {
-        if self.path.is_empty() {
+/// The path by which the system knows an opened folder; nothing where it has none.
+fn handle_of<R: Files + AllocGlobal>(rt: &R, folder: &R::File) -> Result<Option<String>, AllocError>
+where
+    R::File: Locking,
+{
+    let Some(number) = folder.number() else {
+        return Ok(None);
+    };
+    let path = handle_path(rt.alloc(), number)?;
+    if stands_at(rt, folder, &path) {
+        Ok(Some(path))
+    } else {
+        Ok(None)
+    }
+}
+
+/// Refuses what is no file, as `InvalidInput`: opened, a pipe would have the controller wait for ever. (A folder is refused as
+/// it is opened.)
+fn refuse_endless<R: Files>(rt: &R, path: &str) -> io::Result<()> {
+    match rt.metadata(path) {
+        Ok(it) if !it.is_file() && !it.is_dir() => Err(io::Error::from(
+            io::ErrorKind::InvalidInput,
+        )),
+        _ => Ok(()),
+    }
+}
+
+/// Refuses a link: nothing is written through one.
+fn refuse_link<R: Files>(rt: &R, path: &str) -> io::Result<()> {
+    if rt.symlink_metadata(path)?.is_file() {
+        Ok(())
+    } else {
+        Err(io::Error::from(io::ErrorKind::InvalidInput))
+    }
+}
+
+impl<'a, R: Files + AllocGlobal> Folder<'a, R> {
+    /// Makes the folder of this path, and those above it, unless it is there, and has its name on the disk. The answer is
+    /// whether it has: not where the folder above can't be synced. Who may not read it can't, and nobody can on some file
+    /// systems, or on a full disk.
+    pub fn make(rt: &R, path: &str) -> io::Result<bool> {
+        if path.is_empty() {
             return Err(io::Error::from(io::ErrorKind::NotFound));
         }
-        fs::create_dir_all(self.rt, self.path)?;
-        match File::open(self.rt, parent_of(self.path)) {
+        fs::create_dir_all(rt, path)?;
+        match File::open(rt, parent_of(path)) {
             Ok(parent) => match parent.sync_all() {
                 Ok(()) => Ok(true),
                 Err(error) if error.kind() == io::ErrorKind::InvalidInput => Ok(false),
+                Err(error) if is_want_of_room(error) => Ok(false),
                 Err(error) => Err(error),
             },
             Err(error) if error.kind() == io::ErrorKind::PermissionDenied => Ok(false),
@@ -127,96 +133,126 @@ impl<'a, R: Files + AllocGlobal> Folder<'a, R> {
         }
     }
 
-    /// The path of the file by which the folder is locked.
-    pub fn lock_path(&self) -> Result<String, AllocError> {
-        path_of(self.rt.alloc(), self.path, LOCK)
+    /// The path of the file by which the folder of a path is locked.
+    pub fn lock_path(rt: &R, path: &str) -> Result<String, AllocError> {
+        path_of(rt.alloc(), path, LOCK)
     }
 
-    /// Refuses what is no file, as `InvalidInput`: opened, a pipe would have the controller wait for ever. (A folder is refused as
-    /// it is opened.)
-    fn refuse_endless(&self, path: &str) -> io::Result<()> {
-        match self.rt.metadata(path) {
-            Ok(it) if !it.is_file() && !it.is_dir() => {
-                Err(io::Error::from(io::ErrorKind::InvalidInput))
-            }
-            _ => Ok(()),
-        }
-    }
-
-    /// Opens the folder and the file by which it is locked, and has both for itself; nothing where another process has one. Of
-    /// some file systems folders can't be had: then the file alone is.
-    pub fn lock(&self) -> io::Result<Option<Locked<R::File>>>
+    /// Opens the folder of this path and the file by which it is locked, and has both for itself; nothing where another process
+    /// has one. Of some file systems folders can't be had: then the file alone is.
+    pub fn lock(rt: &'a R, path: &'a str) -> io::Result<Option<Folder<'a, R>>>
     where
         R::File: Locking,
     {
-        let path = self.lock_path()?;
-        self.refuse_endless(&path)?;
-        let file = OpenOptions::new()
+        let folder = File::open(rt, path)?;
+        let handle = handle_of(rt, &folder)?;
+        let within = match &handle {
+            Some(handle) => handle.as_str(),
+            None => path,
+        };
+        let lock_path = path_of(rt.alloc(), within, LOCK)?;
+        refuse_endless(rt, &lock_path)?;
+        let lock = OpenOptions::new()
             .write(true)
             .create(true)
             .mode(FOR_OWNER)
-            .open(self.rt, path.as_str())?;
-        let folder = File::open(self.rt, self.path)?;
+            .open(rt, lock_path.as_str())?;
         let is_free = folder.hold().unwrap_or(true);
-        if is_free && file.hold()? {
-            Ok(Some(Locked {
-                _folder: folder,
-                _file: file,
+        if is_free && lock.hold()? {
+            Ok(Some(Folder {
+                rt,
+                path,
+                folder,
+                lock,
+                handle,
             }))
         } else {
             Ok(None)
         }
     }
 
-    /// What is in the folder.
-    pub fn list(&self) -> io::Result<Listing> {
-        let alloc = self.rt.alloc();
-        // also where the path is that of a link
-        let path = path_of(alloc, self.path, ".")?;
-        let mut dir = self.rt.open_dir(path.as_str())?;
-        let names = names_in(alloc, &mut dir)?;
-        let mut listing = Listing {
-            spans: Vec::new(alloc),
-            others: Vec::new(alloc),
-        };
-        for name in names.split(|octet| *octet == 0) {
-            enter(alloc, &mut listing, name)?;
+    /// Refuses to go on by the path where another folder stands there, or none: the locked file isn't in it.
+    fn refuse_moved(&self) -> io::Result<()> {
+        let path = Folder::lock_path(self.rt, self.path)?;
+        if stands_at(self.rt, &self.lock, &path) {
+            Ok(())
+        } else {
+            Err(moved())
         }
-        listing.spans.sort()?;
-        listing.others.sort()?;
-        Ok(listing)
     }
 
-    /// The path of the file that begins behind a line.
+    /// The path by which a file of the folder is reached. Where that is the folder's own, it is looked at right before: so each
+    /// call has one anew.
+    fn reach(&self, name: &str) -> io::Result<String> {
+        let alloc = self.rt.alloc();
+        match &self.handle {
+            Some(handle) => Ok(path_of(alloc, handle, name)?),
+            None => {
+                self.refuse_moved()?;
+                Ok(path_of(alloc, self.path, name)?)
+            }
+        }
+    }
+
+    /// The path by which the file is reached that begins behind a line.
+    fn reach_span(&self, number: u64) -> io::Result<String> {
+        let name = span_name(self.rt.alloc(), number)?;
+        self.reach(&name)
+    }
+
+    /// What is in the folder.
+    pub fn list(&self) -> io::Result<Listing> {
+        // also where the path is that of a link
+        let path = self.reach(".")?;
+        let mut dir = self.rt.open_dir(path.as_str())?;
+        listing_of(self.rt.alloc(), &mut dir)
+    }
+
+    /// The path of the file that begins behind a line, as it is told.
     pub fn span_path(&self, number: u64) -> Result<String, AllocError> {
-        span_path(self.rt.alloc(), self.path, number)
+        let alloc = self.rt.alloc();
+        let name = span_name(alloc, number)?;
+        path_of(alloc, self.path, &name)
     }
 
     /// All octets of the file that begins behind a line; `InvalidInput` where it is none.
     pub fn read_span(&self, number: u64) -> io::Result<Vec<u8>> {
-        let path = self.span_path(number)?;
-        self.refuse_endless(&path)?;
+        let path = self.reach_span(number)?;
+        refuse_endless(self.rt, &path)?;
         let mut file = File::open(self.rt, path.as_str())?;
         let mut octets = Vec::new(self.rt.alloc());
         file.read_to_end(&mut octets)?;
         Ok(octets)
     }
 
-    /// Writes a file under a name of its own, and has it on the disk. What has that name goes first, so that nothing is written
-    /// through a link; and the file goes that can't be written, so that it takes no room.
-    pub(crate) fn write_begun(&self, octets: &[u8]) -> io::Result<R::File> {
-        let path = path_of(self.rt.alloc(), self.path, BEGUN)?;
+    /// Removes the file that was begun, if it is there.
+    fn remove_begun(&self) -> io::Result<()> {
+        let path = self.reach(BEGUN)?;
+        fs::remove_file(self.rt, path.as_str())
+    }
+
+    /// Makes the file that is begun. What has its name goes first, so that nothing is written through a link.
+    fn make_begun(&self) -> io::Result<R::File> {
         // where it stays, the file isn't made
-        let _gone = fs::remove_file(self.rt, path.as_str());
-        let mut file = OpenOptions::new()
+        let _gone = self.remove_begun();
+        let path = self.reach(BEGUN)?;
+        OpenOptions::new()
             .write(true)
             .create_new(true)
             .mode(FOR_OWNER)
-            .open(self.rt, path.as_str())?;
+            .open(self.rt, path.as_str())
+    }
+
+    /// Writes a file under a name of its own, and has it on the disk. The file goes that can't be written, so that it takes no
+    /// room.
+    pub(crate) fn write_begun(&self, octets: &[u8]) -> io::Result<R::File>
+        ensures written { IfOk result (IsHanded R.File.contents octets.now) }
+    {
+        let mut file = self.make_begun()?;
         match write_synced(&mut file, octets) {
             Ok(()) => Ok(file),
             Err(error) => {
-                let _gone = fs::remove_file(self.rt, path.as_str());
+                let _gone = self.remove_begun();
                 Err(error)
             }
         }
@@ -224,15 +260,31 @@ impl<'a, R: Files + AllocGlobal> Folder<'a, R> {
 
     /// Gives the file that was begun its name, and has that on the disk.
     pub(crate) fn name_begun(&self, number: u64) -> io::Result<()> {
-        let from = path_of(self.rt.alloc(), self.path, BEGUN)?;
-        let to = self.span_path(number)?;
+        let to = self.reach_span(number)?;
+        let from = self.reach(BEGUN)?;
         fs::rename(self.rt, from.as_str(), to.as_str())?;
-        File::open(self.rt, self.path)?.sync_all()
+        self.folder.sync_all()
+    }
+
+    /// Writes the octets of the file that begins behind a line over themselves, and has them and its name on the disk. What
+    /// stands behind them goes.
+    pub(crate) fn write_over(&self, number: u64, octets: &[u8]) -> io::Result<R::File>
+        ensures written { IfOk result (IsHanded R.File.contents octets.now) }
+    {
+        // one that couldn't be renamed takes room
+        let _gone = self.remove_begun();
+        let path = self.reach_span(number)?;
+        refuse_link(self.rt, &path)?;
+        let mut file = OpenOptions::new().write(true).open(self.rt, path.as_str())?;
+        file.set_len(octets.len() as u64)?;
+        write_synced(&mut file, octets)?;
+        self.folder.sync_all()?;
+        Ok(file)
     }
 
     /// Removes the file that begins behind a line, if it is there.
     pub(crate) fn remove_span(&self, number: u64) -> io::Result<()> {
-        let path = self.span_path(number)?;
+        let path = self.reach_span(number)?;
         match fs::remove_file(self.rt, path.as_str()) {
             Err(error) if error.kind() == io::ErrorKind::NotFound => Ok(()),
             removed => removed,

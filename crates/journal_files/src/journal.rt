@@ -1,8 +1,11 @@
 //! A journal that is written.
-ghost use Rattle.std.specs.Prelude.{◌≡◌, [], OnOk, OnErr};
+ghost use Rattle.std.specs.Prelude.{◌≡◌, ◌≢◌, ◌+◌, ◌-◌, ◌^◌, ◌∷◌, ◌++◌, [], List, ℕ, min, Err, OnOk, OnErr, IfOk, IfSome, IfNone};
 ghost use Rattle.std.specs.Io.KnownBytes.{Appends};
+ghost use Rattle.journal_records.specs.Records.{record_text};
+ghost use Rattle.journal_files.specs.declared.journal.BeginFault.TheVariants.{NotBegun};
+ghost use Rattle.journal_files.specs.Journals.{file_of, waiting_of, last_of, spans_of, keep_of, begun, IsHanded, SameFiles, AreKept, OldestGo};
 
-use crate::folder::Folder;
+use crate::folder::{Folder, is_moved, is_want_of_room};
 use journal_records::{FIRST_LINE, append_record};
 use std::alloc::{AllocError, Global};
 use std::fs::OpenFile;
@@ -14,7 +17,7 @@ use std::rt::Files;
 pub enum BeginFault {
     /// It couldn't be written. The one that was written goes on.
     NotBegun(io::Error),
-    /// It may be there or not. Neither may be written any more.
+    /// It may be there or not, or another folder stands where it should be. Neither may be written any more.
     Unknown(io::Error),
 }
 
@@ -51,6 +54,21 @@ pub struct Journal<'a, R: Files + AllocGlobal> {
     counted_from: u64,
     /// How many octets were noted since then, with those that the file had before.
     octets: u64,
+    /// Why the last file of a controller before wasn't written anew.
+    unroomed: Option<io::Error>,
+}
+
+/// Writes a file, and gives it the name of that which begins behind a line; both are on the disk then.
+fn write_anew<R: Files + AllocGlobal>(
+    folder: &Folder<'_, R>,
+    number: u64,
+    octets: &[u8],
+) -> io::Result<R::File>
+    ensures written { IfOk result (IsHanded R.File.contents octets.now) }
+{
+    let file = folder.write_begun(octets)?;
+    folder.name_begun(number)?;
+    Ok(file)
 }
 
 impl<'a, R: Files + AllocGlobal> Journal<'a, R> {
@@ -60,17 +78,34 @@ impl<'a, R: Files + AllocGlobal> Journal<'a, R> {
         folder: Folder<'a, R>,
         head: &[u8],
         keep: Option<usize>,
-    ) -> io::Result<Journal<'a, R>> {
+    ) -> io::Result<Journal<'a, R>>
+        ensures file { IfOk result (λ j. IsHanded R.File.contents (begun 0 head.now) (file_of j)) }
+        ensures spans { IfOk result (λ j. spans_of j ≡ 0 ∷ []) }
+        ensures last { IfOk result (λ j. last_of j ≡ 0) }
+        ensures waiting { IfOk result (λ j. waiting_of j ≡ []) }
+    {
         let octets = begun_octets(alloc, 0, head)?;
         let mut spans = Vec::new(alloc);
         spans.push(0)?;
-        Journal::go_on(alloc, folder, spans, &octets, 0, keep)
+        let file = write_anew(&folder, 0, &octets)?;
+        Ok(Journal {
+            folder,
+            file,
+            spans,
+            keep,
+            waiting: Vec::new(alloc),
+            last: 0,
+            counted_from: 0,
+            octets: octets.len() as u64,
+            unroomed: None,
+        })
     }
 
-    /// Goes on with the last file of a journal, which has these octets, and whose last record has this number.
+    /// Goes on with the last file of a journal, which begins with these octets, and whose last record has this number.
     ///
     /// The file is written anew, and takes the place of the old one as a whole: what can be read of that may be in memory
-    /// alone, where the controller before couldn't sync it.
+    /// alone, where the controller before couldn't sync it. Where there is no room for that, its octets are written over
+    /// themselves: so they are synced once more, and at each moment those that were on the disk are.
     pub fn go_on(
         alloc: Global,
         folder: Folder<'a, R>,
@@ -78,10 +113,20 @@ impl<'a, R: Files + AllocGlobal> Journal<'a, R> {
         octets: &[u8],
         last: u64,
         keep: Option<usize>,
-    ) -> io::Result<Journal<'a, R>> {
+    ) -> io::Result<Journal<'a, R>>
+        ensures file { IfOk result (λ j. IsHanded R.File.contents octets.now (file_of j)) }
+        ensures spans { IfOk result (λ j. spans_of j ≡ spans.items) }
+        ensures last { IfOk result (λ j. last_of j ≡ last) }
+        ensures waiting { IfOk result (λ j. waiting_of j ≡ []) }
+    {
         let number = spans.last().copied().unwrap_or(0);
-        let file = folder.write_begun(octets)?;
-        folder.name_begun(number)?;
+        let (file, unroomed) = match write_anew(&folder, number, octets) {
+            Ok(file) => (file, None),
+            Err(error) if is_want_of_room(error) => {
+                (folder.write_over(number, octets)?, Some(error))
+            }
+            Err(error) => return Err(error),
+        };
         Ok(Journal {
             folder,
             file,
@@ -91,11 +136,19 @@ impl<'a, R: Files + AllocGlobal> Journal<'a, R> {
             last,
             counted_from: number,
             octets: octets.len() as u64,
+            unroomed,
         })
     }
 
+    /// What the system said where there was no room to write the last file anew, and it is gone on with as it was.
+    pub fn unroomed(&self) -> Option<io::Error> {
+        self.unroomed
+    }
+
     /// The number of the last line that was noted.
-    pub fn last(&self) -> u64 {
+    pub fn last(&self) -> u64
+        ensures { result ≡ last_of self.now }
+    {
         self.last
     }
 
@@ -110,7 +163,11 @@ impl<'a, R: Files + AllocGlobal> Journal<'a, R> {
     }
 
     /// Counts the lines and octets anew that are noted.
-    pub fn count_anew(&mut self) {
+    pub fn count_anew(&mut self)
+        ensures files { SameFiles self.old self.new }
+        ensures last { last_of self.new ≡ last_of self.old }
+        ensures waiting { waiting_of self.new ≡ waiting_of self.old }
+    {
         self.counted_from = self.last;
         self.octets = 0;
     }
@@ -120,8 +177,15 @@ impl<'a, R: Files + AllocGlobal> Journal<'a, R> {
         self.waiting.len() >= MOST_WAITING
     }
 
-    /// Notes what came of the next line. It waits.
-    pub fn note(&mut self, body: &[u8]) -> Result<(), AllocError> {
+    /// Notes what came of the next line. It waits. Where memory is refused nothing is noted.
+    pub fn note(&mut self, body: &[u8]) -> Result<(), AllocError>
+        ensures noted { OnOk result (waiting_of self.new ≡
+            waiting_of self.old ++ record_text (last_of self.new) body.now) }
+        ensures next { OnOk result (last_of self.new ≡ min (last_of self.old + 1) (2 ^ 64 - 1)) }
+        ensures unchanged { OnErr result (waiting_of self.new ≡ waiting_of self.old) }
+        ensures last { OnErr result (last_of self.new ≡ last_of self.old) }
+        ensures files { SameFiles self.old self.new }
+    {
         let number = self.last.saturating_add(1);
         let before = self.waiting.len();
         append_record(&mut self.waiting, number, body)?;
@@ -132,7 +196,14 @@ impl<'a, R: Files + AllocGlobal> Journal<'a, R> {
     }
 
     /// Puts what waits on the disk. After a fault nothing more may be written: how much of it is on the disk isn't known.
-    pub fn put_down(&mut self) -> io::Result<()> {
+    pub fn put_down(&mut self) -> io::Result<()>
+        ensures written { OnOk result (Appends (R.File.contents (file_of self.old))
+            (R.File.contents (file_of self.new)) (waiting_of self.old)) }
+        ensures none { OnOk result (waiting_of self.new ≡ []) }
+        ensures kept { OnErr result (waiting_of self.new ≡ waiting_of self.old) }
+        ensures last { last_of self.new ≡ last_of self.old }
+        ensures spans { spans_of self.new ≡ spans_of self.old }
+    {
         if self.waiting.is_empty() {
             return Ok(());
         }
@@ -140,35 +211,60 @@ impl<'a, R: Files + AllocGlobal> Journal<'a, R> {
     }
 
     /// Begins a file behind the last line, with this head. All that was noted is on the disk. Of older files those go that
-    /// needn't stay; the answer is the first fault at that.
+    /// needn't stay; the answer is the first fault at that. (`Unknown`, too, where another folder stands at the path by then.)
     pub fn begin_span(
         &mut self,
         alloc: Global,
         head: &[u8],
-    ) -> Result<Option<io::Error>, BeginFault> {
-        let octets = begun_octets(alloc, self.last, head).map_err(not_begun)?;
+    ) -> Result<Option<io::Error>, BeginFault>
+        ensures file { OnOk result (IsHanded R.File.contents (begun (last_of self.old) head.now) (file_of self.new)) }
+        ensures spans { OnOk result (OldestGo (spans_of self.old ++ last_of self.old ∷ []) (spans_of self.new)) }
+        ensures kept { (error : _) → result ≡ Err (NotBegun error) → SameFiles self.old self.new }
+        ensures last { last_of self.new ≡ last_of self.old }
+        ensures waiting { waiting_of self.new ≡ waiting_of self.old }
+    {
+        let octets = match begun_octets(alloc, self.last, head) {
+            Ok(octets) => octets,
+            Err(refused) => return Err(not_begun(refused)),
+        };
         self.spans.reserve(1).map_err(not_begun)?;
-        let file = self
-            .folder
-            .write_begun(&octets)
-            .map_err(BeginFault::NotBegun)?;
+        let file = match self.folder.write_begun(&octets) {
+            Ok(file) => file,
+            Err(error) => return Err(unwritten(error)),
+        };
         self.folder
             .name_begun(self.last)
             .map_err(BeginFault::Unknown)?;
         self.file = file;
         self.octets = octets.len() as u64;
         self.spans.push_reserved(self.last);
-        Ok(self.remove_old())
+        match self.remove_old() {
+            Some(error) if is_moved(error) => Err(BeginFault::Unknown(error)),
+            stays => Ok(stays),
+        }
+    }
+
+    /// The oldest file, where it needn't stay; never the one that is written.
+    fn spare(&self) -> Option<u64>
+        ensures spare { IfSome result (λ number. (rest : List ℕ) × (spans_of self.now ≡ number ∷ rest) × (rest ≢ [])) }
+        ensures none { IfNone result (AreKept (keep_of self.now) (spans_of self.now)) }
+    {
+        let keep = self.keep?;
+        if self.spans.len() <= keep.max(1) {
+            return None;
+        }
+        self.spans.first().copied()
     }
 
     /// Removes the files that needn't stay, the oldest first, up to the first that can't be.
-    fn remove_old(&mut self) -> Option<io::Error> {
-        let keep = self.keep?;
-        for _ in 0..u64::MAX {
-            if self.spans.len() <= keep.max(1) {
-                break;
-            }
-            let number = *self.spans.first()?;
+    fn remove_old(&mut self) -> Option<io::Error>
+        ensures spans { OldestGo (spans_of self.old) (spans_of self.new) }
+        ensures kept { IfNone result (AreKept (keep_of self.new) (spans_of self.new)) }
+        ensures file { file_of self.new ≡ file_of self.old }
+        ensures last { last_of self.new ≡ last_of self.old }
+        ensures waiting { waiting_of self.new ≡ waiting_of self.old }
+    {
+        while let Some(number) = self.spare() {
             if let Err(error) = self.folder.remove_span(number) {
                 return Some(error);
             }
@@ -178,13 +274,24 @@ impl<'a, R: Files + AllocGlobal> Journal<'a, R> {
     }
 }
 
+/// Why a file isn't begun that can't be written.
+fn unwritten(error: io::Error) -> BeginFault {
+    if is_moved(error) {
+        BeginFault::Unknown(error)
+    } else {
+        BeginFault::NotBegun(error)
+    }
+}
+
 /// A file isn't begun for want of memory.
 fn not_begun(_refused: AllocError) -> BeginFault {
     BeginFault::NotBegun(io::Error::from(io::ErrorKind::OutOfMemory))
 }
 
 /// The octets with which a file begins.
-fn begun_octets(alloc: Global, number: u64, head: &[u8]) -> Result<Vec<u8>, AllocError> {
+fn begun_octets(alloc: Global, number: u64, head: &[u8]) -> Result<Vec<u8>, AllocError>
+    ensures { IfOk result (λ octets. octets.items ≡ begun number head.now) }
+{
     let mut octets = Vec::new(alloc);
     octets.extend_from_slice(FIRST_LINE)?;
     append_record(&mut octets, number, head)?;

@@ -22,13 +22,20 @@ pub(crate) fn path_of<A: Allocator + Copy>(
     format!(in alloc; "{folder}/{name}")
 }
 
-/// The path of the file that begins behind the line of this number.
-pub(crate) fn span_path<A: Allocator + Copy>(
+/// The name of the file that begins behind the line of this number.
+pub(crate) fn span_name<A: Allocator + Copy>(
     alloc: A,
-    folder: &str,
     number: u64,
 ) -> Result<String<A>, AllocError> {
-    format!(in alloc; "{folder}/{number:020}.journal")
+    format!(in alloc; "{number:020}.journal")
+}
+
+/// The path by which a process knows what it has opened under a number, wherever that was moved since.
+pub(crate) fn handle_path<A: Allocator + Copy>(
+    alloc: A,
+    number: u32,
+) -> Result<String<A>, AllocError> {
+    format!(in alloc; "/proc/self/fd/{number}")
 }
 
 /// Behind which line the file of this name begins; nothing of the name of another file.

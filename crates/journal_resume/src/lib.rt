@@ -1,7 +1,8 @@
-//! The book of a journal's file: that to which the events of its head and of its records lead; and the head of a file that is
-//! begun.
+//! The book of a journal's file: that to which the events of its head and of its records lead; the head of a file that is
+//! begun; and where one that is damaged can be cut (`cuts`).
 #![tactic(auto)]
 
+mod cuts;
 mod ends;
 mod head;
 mod journal;
@@ -9,6 +10,7 @@ mod resuming;
 mod sent;
 mod traces;
 
+pub use cuts::{Damage, damage_at};
 pub use head::{HeadFault, head_body};
 pub use journal::{WholeFault, resume, whole_octets};
 pub use resuming::{ResumeFault, Resumed};

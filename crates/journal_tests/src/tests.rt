@@ -1,6 +1,10 @@
-//! A journal over a disk of our own, which fails, or loses what wasn't synced, at each of its calls in turn.
+//! A journal over a disk of our own, which fails, or loses what wasn't synced, at each of its calls in turn; or is full, or its
+//! folder is moved.
+mod cuts;
 mod disk;
+mod full;
 mod lines;
+mod moved;
 mod openings;
 mod records;
 mod texts;
@@ -146,10 +150,12 @@ fn open<'a>(
     keep: Option<usize>,
 ) -> Result<Option<Opened<'a>>, Fail> {
     let alloc = host.1;
-    let folder = Folder::new(host, "j");
-    if folder.make().is_err() {
+    if Folder::make(host, "j").is_err() {
         return Ok(None);
     }
+    let Ok(Some(folder)) = Folder::lock(host, "j") else {
+        return Ok(None);
+    };
     let Ok(Listing { spans, others: _ }) = folder.list() else {
         return Ok(None);
     };
@@ -228,13 +234,13 @@ fn goes_on(
 /// is whether the call came.
 fn fails_at(
     rt: &impl Abort,
-    alloc: Global,
+    host: Host,
     site: &Arc<Site>,
     failure: Failure,
     number: u32,
     keep: Option<usize>,
 ) -> Result<bool, Fail> {
-    let host = (Disk::new(alloc, failure, number)?, alloc);
+    let alloc = host.1;
     let first = first_course(rt, &host, site, keep)?;
     let came = host.0.has_failed()?;
     for is_named in [false, true] {
@@ -248,17 +254,28 @@ fn fails_at(
     Ok(came)
 }
 
+/// A disk on which the folder that is opened is reached by its number, or by its path alone.
+fn host_of(alloc: Global, failure: Failure, number: u32, has_handles: bool) -> Result<Host, Fail> {
+    let disk = Disk::new(alloc, failure, number)?;
+    if !has_handles {
+        disk.hide_handles()?;
+    }
+    Ok((disk, alloc))
+}
+
 /// Each call fails in turn, in a way.
 fn each_fails(
     rt: &impl Abort,
     alloc: Global,
     failure: Failure,
     keep: Option<usize>,
+    has_handles: bool,
 ) -> Result<(), Fail> {
     let site = fresh_site(alloc)?;
     let mut count = 0u32;
     for number in 1..400u32 {
-        if !fails_at(rt, alloc, &site, failure, number, keep)? {
+        let host = host_of(alloc, failure, number, has_handles)?;
+        if !fails_at(rt, host, &site, failure, number, keep)? {
             break;
         }
         count = number;
@@ -269,17 +286,23 @@ fn each_fails(
 
 #[test]
 fn a_call_fails_and_nothing_is_lost(rt: HostRuntime) -> Result<(), Fail> {
-    each_fails(&rt, rt.alloc(), Failure::Refused, None)
+    each_fails(&rt, rt.alloc(), Failure::Refused, None, true)
 }
 
 #[test]
 fn power_fails_and_nothing_is_lost(rt: HostRuntime) -> Result<(), Fail> {
-    each_fails(&rt, rt.alloc(), Failure::Power, None)
+    each_fails(&rt, rt.alloc(), Failure::Power, None, true)
 }
 
 #[test]
 fn power_fails_where_old_files_go(rt: HostRuntime) -> Result<(), Fail> {
-    each_fails(&rt, rt.alloc(), Failure::Power, Some(2))
+    each_fails(&rt, rt.alloc(), Failure::Power, Some(2), true)
+}
+
+/// The same where the folder is reached by its path alone.
+#[test]
+fn a_call_fails_by_the_path_and_nothing_is_lost(rt: HostRuntime) -> Result<(), Fail> {
+    each_fails(&rt, rt.alloc(), Failure::Refused, Some(2), false)
 }
 
 /// Where two files stay, older ones are there no more, and others are left alone.
@@ -290,8 +313,13 @@ fn old_files_go(rt: HostRuntime) -> Result<(), Fail> {
     host.0.add("j/notes.txt")?;
     let course = first_course(&rt, &host, &fresh_site(alloc)?, Some(2))?;
     assert!(rt; !course.has_ended);
-    let listing = Folder::new(&host, "j").list()?;
-    assert_eq!(rt; listing.spans.as_slice(), [20u64, 40].as_slice());
-    assert_eq!(rt; listing.others.len(), 1);
+    match Folder::lock(&host, "j")? {
+        Some(folder) => {
+            let listing = folder.list()?;
+            assert_eq!(rt; listing.spans.as_slice(), [20u64, 40].as_slice());
+            assert_eq!(rt; listing.others.len(), 1);
+        }
+        None => panic!(rt; "another has it"),
+    }
     Ok(())
 }

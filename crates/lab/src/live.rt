@@ -1,12 +1,14 @@
 //! A controller that is given the lines of standard input as they come.
 //!
 //! No clause says what is printed: which lines are handled is said in `live_runs`.
+use crate::faults::lab_result;
 use crate::files::{ended_viewed, text_of};
-use crate::journals::{Opened, ended_journal, open_journal};
+use crate::journals::{asked_of, ended_journal};
 use crate::site_files::say_site;
 use crate::view_paths::{is_site, refuse_twice};
 use cell_table::Site;
 use journal_files::Locking;
+use journal_opening::{Opened, open_journal};
 use journal_records::checksum;
 use journal_runs::{Held, Journaled};
 use lab_runs::run::{Status, refuse_site};
@@ -133,19 +135,12 @@ fn live_journaled<R: Files + AllocGlobal, I: BufRead + LineReader, W: Write, E: 
     reader: &mut I,
     out: &mut W,
     errors: &mut E,
-) -> Result<Status, LabFault>
-where
-    R::File: Locking,
-{
+) -> Result<Status, LabFault> {
     let alloc = rt.alloc();
     let Some(sheets) = open_sheets(rt, asked.views, out, errors)? else {
         return Ok(Status::Refused);
     };
-    let Opened {
-        journal,
-        book,
-        lock: _lock,
-    } = opened;
+    let Opened { journal, book } = opened;
     let rules = rules_behind(journal.last(), asked.entries);
     let mut held = Held::new(alloc, out);
     let viewer = LiveViewer::new(alloc, asked.views, sheets, &mut held, errors)?;
@@ -210,7 +205,8 @@ where
         let book = Book::new(alloc, site)?;
         return live_viewed(rt, book, asked, &mut reader, out, errors);
     };
-    let Some(opened) = open_journal(rt, journal, site, sum, out, errors)? else {
+    let found = open_journal(rt, asked_of(journal), site, sum, out, errors);
+    let Some(opened) = lab_result(found)? else {
         return Ok(Status::Refused);
     };
     live_journaled(rt, opened, asked, journal, sum, &mut reader, out, errors)

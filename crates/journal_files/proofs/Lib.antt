@@ -1,0 +1,2 @@
+-- which files go, and what is handed to one
+pub mod Spans

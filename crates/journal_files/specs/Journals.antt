@@ -1,0 +1,51 @@
+-- What a journal that is written shows to its callers. Ours, of no standard. What is told of a file is what is handed to it: what a
+-- file system makes of that no definition says.
+use Rattle.std.specs.Prelude.{◌≡◌, ◌≢◌, ◌≤◌, ℕ, List, [], ◌∷◌, ◌++◌, length, max, Option, Some, None, ⊤}
+use Rattle.std.specs.Io.KnownBytes.{Appends}
+use Rattle.journal_records.specs.Records.{record_text}
+use Rattle.journal_records.specs.Files.{first_line}
+use Rattle.journal_files.specs.declared.journal.Journal.{Journal}
+
+-- the file that is written
+abbrev pub file_of : {R F D : Type 0} → Journal R F D → F
+file_of j = j.file
+
+-- the records that wait
+abbrev pub waiting_of : {R F D : Type 0} → Journal R F D → List ℕ
+waiting_of j = j.waiting.items
+
+-- the number of the last line that was noted
+abbrev pub last_of : {R F D : Type 0} → Journal R F D → ℕ
+last_of j = j.last
+
+-- behind which lines its files begin, in their order
+abbrev pub spans_of : {R F D : Type 0} → Journal R F D → List ℕ
+spans_of j = j.spans.items
+
+-- how many files stay
+abbrev pub keep_of : {R F D : Type 0} → Journal R F D → Option ℕ
+keep_of j = j.keep
+
+-- these octets were handed to a file since it was opened
+abbrev pub IsHanded : {F : Type 0} → (F → Option (List ℕ)) → List ℕ → F → Type 0
+IsHanded {F} contents octets file = (opened : F) × Appends (contents opened) (contents file) octets
+
+-- with which octets a file begins that begins behind a line
+abbrev pub begun : ℕ → List ℕ → List ℕ
+begun number head = first_line ++ record_text number head
+
+-- A journal is as it was, but for what waits and for its numbers.
+pub record SameFiles {R F D : Type 0} (j j' : Journal R F D) : Type 0 where
+  pub file : file_of j' ≡ file_of j
+  pub spans : spans_of j' ≡ spans_of j
+
+-- so many files stay at most; any, where that isn't said
+abbrev pub AreKept : Option ℕ → List ℕ → Type 0
+AreKept None spans = ⊤
+AreKept (Some keep) spans = length spans ≤ max keep 1
+
+-- The oldest files are removed, and never the last one, which is written.
+pub record OldestGo (old new : List ℕ) : Type 0 where
+  pub gone : List ℕ
+  pub rest : old ≡ gone ++ new
+  pub last : old ≢ [] → new ≢ []

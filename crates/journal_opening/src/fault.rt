@@ -1,0 +1,47 @@
+//! Why no journal is opened, and how that is told.
+use screen_text::{Escaped, Reason};
+use std::fmt;
+use std::io::{self, Write};
+
+/// Why no journal was opened, as far as `errors` wasn't told yet.
+pub(crate) enum OpenFault {
+    /// Memory was refused.
+    NoMemory,
+    /// Something can't be written.
+    Write,
+    /// What the system said of the folder or of a file in it.
+    System(io::Error),
+    /// It was told.
+    Told,
+}
+
+impl From<io::Error> for OpenFault {
+    fn from(error: io::Error) -> OpenFault {
+        if error.kind() == io::ErrorKind::OutOfMemory {
+            OpenFault::NoMemory
+        } else {
+            OpenFault::System(error)
+        }
+    }
+}
+
+/// Tells why a file is refused.
+pub(crate) fn refuse<F: fmt::Display + Drop, E: Write>(
+    path: &str,
+    fault: F,
+    errors: &mut E,
+) -> OpenFault {
+    match writeln!(errors, "{}: {fault}", Escaped(path)) {
+        Ok(()) => OpenFault::Told,
+        Err(_) => OpenFault::Write,
+    }
+}
+
+/// Tells why a file isn't opened or read.
+pub(crate) fn refuse_file<E: Write>(path: &str, error: io::Error, errors: &mut E) -> OpenFault {
+    match error.kind() {
+        io::ErrorKind::OutOfMemory => OpenFault::NoMemory,
+        io::ErrorKind::InvalidInput => refuse(path, "isn't a file", errors),
+        _ => refuse(path, Reason(&error), errors),
+    }
+}

@@ -1,0 +1,70 @@
+//! The book of a journal's file that was read.
+use crate::fault::{OpenFault, refuse};
+use cell_table::Site;
+use journal_resume::{ResumeFault, Resumed, damage_at, resume};
+use radio_book::book::Book;
+use screen_text::Escaped;
+use std::alloc::Global;
+use std::io::{self, Write};
+use std::sync::Arc;
+
+/// The book of a file, the number of its last record, and how many octets it has without a record that was cut.
+#[derive(Drop)]
+pub(crate) struct Found {
+    pub(crate) book: Book,
+    pub(crate) last: u64,
+    pub(crate) whole: usize,
+    pub(crate) is_cut: bool,
+}
+
+/// Tells that the record of a number is damaged, and where the file can be cut.
+fn refuse_damaged<E: Write>(path: &str, octets: &[u8], number: u64, errors: &mut E) -> OpenFault {
+    match damage_at(octets, number) {
+        Some(damage) => refuse(path, damage, errors),
+        None => refuse(path, ResumeFault::Damaged(number), errors),
+    }
+}
+
+/// The book of the octets of a file that has this number in its name.
+pub(crate) fn found_in<E: Write>(
+    alloc: Global,
+    path: &str,
+    site: Arc<Site>,
+    site_sum: u32,
+    number: u64,
+    octets: &[u8],
+    errors: &mut E,
+) -> Result<Found, OpenFault> {
+    let Resumed { book, last, left } = match resume(alloc, site, site_sum, number, octets) {
+        Ok(resumed) => resumed,
+        Err(ResumeFault::NoMemory) => return Err(OpenFault::NoMemory),
+        Err(ResumeFault::Damaged(number)) => {
+            return Err(refuse_damaged(path, octets, number, errors));
+        }
+        Err(fault) => return Err(refuse(path, fault, errors)),
+    };
+    Ok(Found {
+        book,
+        last,
+        whole: octets.len().saturating_sub(left.len()),
+        is_cut: !left.is_empty(),
+    })
+}
+
+/// Tells with what a controller goes on.
+pub(crate) fn say_resumed<E: Write>(found: &Found, path: &str, errors: &mut E) -> io::Result<()> {
+    if found.is_cut {
+        writeln!(
+            errors,
+            "{}: the record behind line {} was cut, and is dropped",
+            Escaped(path),
+            found.last
+        )?;
+    }
+    let usage = found.book.usage();
+    writeln!(
+        errors,
+        "resumed after line {}: channels={} calls={}",
+        found.last, usage.channels, usage.calls
+    )
+}

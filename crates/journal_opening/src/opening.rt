@@ -1,0 +1,224 @@
+//! A journal that is opened: gone on with, or begun.
+use crate::fault::{OpenFault, refuse, refuse_file};
+use crate::found::{Found, found_in, say_resumed};
+use crate::told::{UNHEARD, octets_of, told_again};
+use cell_table::Site;
+use journal_files::{Folder, Journal, Listing, Locking};
+use journal_resume::{HeadFault, head_body};
+use radio_book::book::Book;
+use screen_text::{Escaped, PrintFault, Reason};
+use std::io::{self, Write};
+use std::rt::Files;
+use std::sync::Arc;
+
+/// A journal that is opened, and the book with which the controller goes on.
+#[derive(Drop)]
+pub struct Opened<'a, R: Files + AllocGlobal> {
+    /// The journal.
+    pub journal: Journal<'a, R>,
+    /// The book.
+    pub book: Book,
+}
+
+/// What is asked of a journal.
+#[derive(Clone, Copy, Debug, PartialEq, Eq)]
+pub struct Asked<'a> {
+    /// The path of its folder.
+    pub folder: &'a str,
+    /// How many of its files stay; all, where no number is asked for.
+    pub keep: Option<usize>,
+    /// The last line that was heard whole: what was sent for later ones is told once more.
+    pub heard: Option<u64>,
+}
+
+/// Tells which files of the folder aren't the journal's.
+fn say_others<E: Write>(path: &str, listing: &Listing, errors: &mut E) -> Result<(), OpenFault> {
+    for name in &listing.others {
+        writeln!(
+            errors,
+            "{}/{}: not of the journal, and left alone",
+            Escaped(path),
+            Escaped(name.as_str())
+        )
+        .map_err(|_| OpenFault::Write)?;
+    }
+    Ok(())
+}
+
+/// Tells that the name of a folder in which a journal begins may not be on the disk, where it isn't known to be.
+fn say_unsynced<E: Write>(path: &str, is_named: bool, errors: &mut E) -> Result<(), OpenFault> {
+    if is_named {
+        return Ok(());
+    }
+    writeln!(
+        errors,
+        "{}: the folder above can't be synced: if power fails, this one may be lost",
+        Escaped(path)
+    )
+    .map_err(|_| OpenFault::Write)
+}
+
+/// Tells that there was no room to write the last file anew, where that is so.
+fn say_unroomed<R: Files + AllocGlobal, E: Write>(
+    journal: &Journal<'_, R>,
+    path: &str,
+    errors: &mut E,
+) -> io::Result<()> {
+    match journal.unroomed() {
+        Some(error) => writeln!(
+            errors,
+            "{}: {}; the last file isn't written anew, and goes on as it was",
+            Escaped(path),
+            Reason(&error)
+        ),
+        None => Ok(()),
+    }
+}
+
+/// Goes on with the journal that a folder has. Before anything is told of it, or sent once more, it is on the disk.
+fn go_on<'a, R: Files + AllocGlobal, W: Write, E: Write>(
+    rt: &'a R,
+    folder: Folder<'a, R>,
+    asked: Asked<'a>,
+    spans: Vec<u64>,
+    last_span: u64,
+    site: Arc<Site>,
+    site_sum: u32,
+    out: &mut W,
+    errors: &mut E,
+) -> Result<(Journal<'a, R>, Book), OpenFault> {
+    let alloc = rt.alloc();
+    let path = folder
+        .span_path(last_span)
+        .map_err(|_| OpenFault::NoMemory)?;
+    let octets = octets_of(&folder, last_span, &path, errors)?;
+    let found = found_in(alloc, &path, site, site_sum, last_span, &octets, errors)?;
+    let told = told_again(alloc, &folder, asked, &spans, found.last, errors)?;
+    let (octets, _cut) = octets.split_at(found.whole.min(octets.len()));
+    let journal = Journal::go_on(alloc, folder, spans, octets, found.last, asked.keep)?;
+    say_unroomed(&journal, asked.folder, errors).map_err(|_| OpenFault::Write)?;
+    say_resumed(&found, &path, errors).map_err(|_| OpenFault::Write)?;
+    out.write_all(told.as_slice())
+        .map_err(|_| OpenFault::Write)?;
+    out.flush().map_err(|_| OpenFault::Write)?;
+    let Found {
+        book,
+        last: _,
+        whole: _,
+        is_cut: _,
+    } = found;
+    Ok((journal, book))
+}
+
+/// Begins a journal in a folder that has none; no line can have been heard then.
+fn begin<'a, R: Files + AllocGlobal, E: Write>(
+    rt: &'a R,
+    folder: Folder<'a, R>,
+    asked: Asked<'a>,
+    site: Arc<Site>,
+    site_sum: u32,
+    errors: &mut E,
+) -> Result<(Journal<'a, R>, Book), OpenFault> {
+    if asked.heard.unwrap_or(0) > 0 {
+        return Err(refuse(asked.folder, UNHEARD, errors));
+    }
+    let alloc = rt.alloc();
+    let book = Book::new(alloc, site).map_err(|_| OpenFault::NoMemory)?;
+    let head = match head_body(alloc, site_sum, &book) {
+        Ok(head) => head,
+        Err(HeadFault::NoMemory) => return Err(OpenFault::NoMemory),
+        // no events lead from the empty book to itself
+        Err(HeadFault::Differs) => {
+            return Err(refuse(asked.folder, "the journal can't be begun", errors));
+        }
+    };
+    let journal = Journal::begin(alloc, folder, head.as_bytes(), asked.keep)?;
+    Ok((journal, book))
+}
+
+/// Makes the folder, as [`Folder::make`] does; it is refused where another thing stands there.
+fn make_folder<R: Files + AllocGlobal, E: Write>(
+    rt: &R,
+    path: &str,
+    errors: &mut E,
+) -> Result<bool, OpenFault> {
+    match Folder::make(rt, path) {
+        Ok(is_named) => Ok(is_named),
+        Err(error) if error.kind() == io::ErrorKind::AlreadyExists => {
+            Err(refuse(path, "isn't a folder", errors))
+        }
+        Err(error) => Err(OpenFault::from(error)),
+    }
+}
+
+/// Locks the folder; it is refused where another controller has it.
+fn lock_folder<'a, R: Files + AllocGlobal, E: Write>(
+    rt: &'a R,
+    path: &'a str,
+    errors: &mut E,
+) -> Result<Folder<'a, R>, OpenFault>
+where
+    R::File: Locking,
+{
+    match Folder::lock(rt, path) {
+        Ok(Some(folder)) => Ok(folder),
+        Ok(None) => Err(refuse(path, "another controller has this journal", errors)),
+        Err(error) => {
+            let path = Folder::lock_path(rt, path).map_err(|_| OpenFault::NoMemory)?;
+            Err(refuse_file(&path, error, errors))
+        }
+    }
+}
+
+/// Opens the journal of a folder.
+fn try_to_open<'a, R: Files + AllocGlobal, W: Write, E: Write>(
+    rt: &'a R,
+    asked: Asked<'a>,
+    site: Arc<Site>,
+    site_sum: u32,
+    out: &mut W,
+    errors: &mut E,
+) -> Result<Opened<'a, R>, OpenFault>
+where
+    R::File: Locking,
+{
+    let is_named = make_folder(rt, asked.folder, errors)?;
+    let folder = lock_folder(rt, asked.folder, errors)?;
+    let listing = folder.list()?;
+    say_others(asked.folder, &listing, errors)?;
+    let Listing { spans, others: _ } = listing;
+    let (journal, book) = match spans.last().copied() {
+        Some(last) => go_on(rt, folder, asked, spans, last, site, site_sum, out, errors)?,
+        None => {
+            let begun = begin(rt, folder, asked, site, site_sum, errors)?;
+            say_unsynced(asked.folder, is_named, errors)?;
+            begun
+        }
+    };
+    Ok(Opened { journal, book })
+}
+
+/// Opens the journal of a folder: goes on with the one that is there, or begins one. Nothing where it is refused, as `errors` then
+/// says; no file was changed then.
+pub fn open_journal<'a, R: Files + AllocGlobal, W: Write, E: Write>(
+    rt: &'a R,
+    asked: Asked<'a>,
+    site: Arc<Site>,
+    site_sum: u32,
+    out: &mut W,
+    errors: &mut E,
+) -> Result<Option<Opened<'a, R>>, PrintFault>
+where
+    R::File: Locking,
+{
+    match try_to_open(rt, asked, site, site_sum, out, errors) {
+        Ok(opened) => Ok(Some(opened)),
+        Err(OpenFault::NoMemory) => Err(PrintFault::NoMemory),
+        Err(OpenFault::Write) => Err(PrintFault::Write),
+        Err(OpenFault::Told) => Ok(None),
+        Err(OpenFault::System(error)) => {
+            writeln!(errors, "{}: {}", Escaped(asked.folder), Reason(&error))?;
+            Ok(None)
+        }
+    }
+}

@@ -1,0 +1,83 @@
+//! Where a file with a damaged record can be cut, so that a whole journal is left.
+use journal_records::{RecordFault, behind_first_line, first_record};
+use std::fmt;
+
+/// By this each record begins.
+const WORD: &[u8] = b"record ";
+
+/// A record that is damaged, and what a cut in front of it leaves and gives up.
+#[derive(Clone, Copy, Debug, PartialEq, Eq)]
+pub struct Damage {
+    /// The number that the record should have. The records from this on are given up.
+    pub first: u64,
+    /// How many octets stand in front of it: these are a whole journal.
+    pub octets: usize,
+    /// The last record that is whole of those that are given up, if one is.
+    pub last: Option<u64>,
+}
+
+impl fmt::Display for Damage {
+    fn fmt<W: fmt::Write>(&self, f: &mut fmt::Formatter<W>) -> fmt::Result {
+        let octets = self.octets;
+        write!(
+            f,
+            "record {} is damaged; a cut behind octet {octets} (truncate -s {octets}) leaves a whole journal, and gives up \
+             the records from {} on, of which ",
+            self.first, self.first
+        )?;
+        match self.last {
+            Some(last) => write!(f, "{last} is the last that is whole"),
+            None => f.write_str("none is whole"),
+        }
+    }
+}
+
+/// What stands behind the records with which octets begin.
+fn behind_records(octets: &[u8]) -> &[u8] {
+    let mut left = octets;
+    for _ in 0..u64::MAX {
+        match first_record(left) {
+            Ok(taken) => left = taken.behind,
+            Err(RecordFault::Cut | RecordFault::Damaged) => break,
+        }
+    }
+    left
+}
+
+/// The number of the record with which octets begin, if they begin with a whole one.
+fn whole_number(octets: &[u8]) -> Option<u64> {
+    // where no record begins no checksum is looked for, which takes long
+    if !octets.starts_with(WORD) {
+        return None;
+    }
+    match first_record(octets) {
+        Ok(taken) => Some(taken.number),
+        Err(RecordFault::Cut | RecordFault::Damaged) => None,
+    }
+}
+
+/// The number of the last whole record among octets, wherever it begins; of those that have this number or a higher one.
+fn last_whole(octets: &[u8], least: u64) -> Option<u64> {
+    let mut last = None;
+    for place in 0..octets.len() {
+        let (_before, from) = octets.split_at(place);
+        match whole_number(from) {
+            Some(number) if least <= number => last = Some(number),
+            Some(_) | None => {}
+        }
+    }
+    last
+}
+
+/// The damage of a journal's file whose first record that can't be taken has this number; nothing where the octets are no journal.
+pub fn damage_at(octets: &[u8], number: u64) -> Option<Damage> {
+    let Ok(records) = behind_first_line(octets) else {
+        return None;
+    };
+    let left = behind_records(records);
+    Some(Damage {
+        first: number,
+        octets: octets.len().saturating_sub(left.len()),
+        last: last_whole(left, number),
+    })
+}
