@@ -5,6 +5,7 @@ ghost use Rattle.decoded_lines.specs.Reading.{longest_line, Gives};
 ghost use Rattle.decoded_lines.specs.Answers.{WritesMessage, TextSays, Judges, IsAdded, IsCounted, CountsFirst, AreGood};
 
 use crate::messages::{Detail, link_named, print_message};
+use crate::notes::print_note;
 use crate::octets::read_octets;
 use crate::parts::{said_in, word_and_rest};
 use crate::reader::{Found, next_line};
@@ -148,7 +149,7 @@ fn answer_text<A: Allocator + Copy, W: Write>(
 fn end_answer<W: Write>(note: Option<&[u8]>, out: &mut W) -> io::Result<()> {
     if let Some(note) = note {
         write!(out, " #")?;
-        out.write_all(note)?;
+        print_note(note, out)?;
     }
     writeln!(out)
 }
@@ -257,8 +258,9 @@ fn answer_next<A: Allocator + Copy, R: BufRead, W: Write>(
 }
 
 /// Reads lines to their end and answers each by one line: its number, counted from 1, what its octets say or why it is
-/// refused, and its note, which is what stands behind its first `#`. Lines of blanks and tabs alone, and those of a note
-/// alone, have no answer.
+/// refused, and its note, which is what stands behind its first `#`: with its tabs, what else would steer a terminal by its
+/// escape ([`Escaped`](screen_text::Escaped)), and each octet that is no text as `\xff`. Lines of blanks and tabs alone, and
+/// those of a note alone, have no answer.
 ///
 /// Where no link is given, each line begins with the name of its own, and a blank or a tab behind it. Refused are a name
 /// of no link (`link`), a text that writes no octets ([`read_octets`]: `hex`), a line that is too long ([`next_line`]:

@@ -8,6 +8,7 @@
 mod answers;
 mod file;
 mod messages;
+mod notes;
 mod octets;
 mod parts;
 mod reader;

@@ -1,12 +1,12 @@
 //! The events by which calls come to where they are, call by call.
-ghost use Rattle.std.specs.Prelude.{◌≡◌, ◌++◌, OnOk};
+ghost use Rattle.std.specs.Prelude.{◌≡◌, ◌++◌, OnOk, option_map};
 ghost use Rattle.std.specs.List.{flat_map};
 ghost use Rattle.channel_fsm.specs.Keys.{same_chan};
+ghost use Rattle.radio_book.specs.State.{state_of};
 ghost use Rattle.radio_book.specs.Table.{is_target};
 ghost use Rattle.radio_book.specs.Sound.{target_in};
 ghost use Rattle.opening_events.specs.Opening as spec;
 
-use crate::asking::{look_at, owner_of};
 use crate::attempts::add_opened;
 use channel_fsm::{ChanId, ChanState};
 use radio_book::book::Book;
@@ -92,36 +92,41 @@ fn is_listed_by(found: CallRecord, chan: ChanId) -> bool
     }
 }
 
+/// The state of the channel that serves a call.
+fn serving_state<A: Allocator + Copy>(book: &Book<A>, found: CallRecord) -> Option<ChanState>
+    ensures { result ≡ option_map (state_of book.now) found.serving }
+{
+    Some(book.state(found.serving?))
+}
+
 /// The call that a channel is in use for comes to where it is, if it stands in the list by this channel.
 fn add_owner<A: Allocator + Copy>(
     events: &mut Vec<Event, A>,
-    known: &mut Book<A>,
+    book: &Book<A>,
     chan: ChanId,
     call: u16,
 ) -> Result<(), AllocError>
-    ensures events { OnOk result (events.new.items ≡ events.old.items
-        ++ spec.events_of_shown chan call (spec.shown known.old call)) }
-    ensures kept { OnOk result (known.new ≡ known.old) }
+    ensures { OnOk result (events.new.items ≡ events.old.items
+        ++ spec.events_of_shown chan call (spec.shown book.now call)) }
 {
-    let Some((record, state)) = look_at(known, call)? else {
+    let Some(found) = book.record(call) else {
         return Ok(());
     };
-    if !is_listed_by(record, chan) {
+    if !is_listed_by(found, chan) {
         return Ok(());
     }
-    add_call(events, call, record, state)
+    add_call(events, call, found, serving_state(book, found))
 }
 
 fn add_at<A: Allocator + Copy>(
     events: &mut Vec<Event, A>,
-    known: &mut Book<A>,
+    book: &Book<A>,
     chan: ChanId,
 ) -> Result<(), AllocError>
-    ensures events { OnOk result (events.new.items ≡ events.old.items ++ spec.events_at known.old chan) }
-    ensures kept { OnOk result (known.new ≡ known.old) }
+    ensures { OnOk result (events.new.items ≡ events.old.items ++ spec.events_at book.now chan) }
 {
-    match owner_of(known, chan)? {
-        Some(call) => add_owner(events, known, chan, call),
+    match book.owner(chan) {
+        Some(call) => add_owner(events, book, chan, call),
         None => Ok(()),
     }
 }
@@ -129,15 +134,14 @@ fn add_at<A: Allocator + Copy>(
 /// All calls come to where they are, in the order of these channels.
 pub(crate) fn add_calls<A: Allocator + Copy>(
     events: &mut Vec<Event, A>,
-    known: &mut Book<A>,
+    book: &Book<A>,
     channels: &[ChanId],
 ) -> Result<(), AllocError>
-    ensures events { OnOk result (events.new.items ≡ events.old.items
-        ++ flat_map (spec.events_at known.old) channels.now) }
-    ensures kept { OnOk result (known.new ≡ known.old) }
+    ensures { OnOk result (events.new.items ≡ events.old.items
+        ++ flat_map (spec.events_at book.now) channels.now) }
 {
     for chan in channels {
-        add_at(events, known, *chan)?;
+        add_at(events, book, *chan)?;
     }
     Ok(())
 }

@@ -2,7 +2,6 @@
 //! call. So a book can be written down as events, and made again by them.
 #![tactic(auto)]
 
-mod asking;
 mod attempts;
 mod calls;
 mod listing;

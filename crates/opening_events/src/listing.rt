@@ -1,18 +1,16 @@
 //! The whole list, and that it leads to the book.
-ghost use Rattle.std.specs.Prelude.{◌≡◌, ◌≢◌, ◌++◌, ℕ, Some, Err, IfOk, OnOk, slice_get};
+ghost use Rattle.std.specs.Prelude.{◌≡◌, ◌≢◌, ◌++◌, Err, IfOk, OnOk, slice_get};
 ghost use Rattle.std.specs.List.{flat_map};
 ghost use Rattle.std.specs.Option.{option_to_list};
-ghost use Rattle.channel_fsm.specs.declared.ChanId.{ChanId};
 ghost use Rattle.cell_table.specs.Site as site_spec;
 ghost use Rattle.radio_book.specs.State.{state_of, empty_book};
 ghost use Rattle.radio_book.specs.Run.{run_book};
-ghost use Rattle.opening_events.specs.Asking.{StandOnce};
+ghost use Rattle.radio_book.specs.Table.{channel_row};
 ghost use Rattle.opening_events.specs.Opening.{off_events, events_at, opening_events};
 
-use crate::asking::take_release;
 use crate::calls::add_calls;
 use cell_table::Site;
-use channel_fsm::ChanId;
+use channel_fsm::{ChanId, ChanState};
 use radio_book::book::Book;
 use radio_book::event::Event;
 use radio_book::run::run;
@@ -57,13 +55,9 @@ fn push_at<A: Allocator + Copy>(
 }
 
 /// The traffic channels of a site, in their order.
-#[tactic(auto, using(crate::proofs::Parts::stand_once))]
 fn channels_of<A: Allocator + Copy>(alloc: A, site: &Site<A>) -> Result<Vec<ChanId, A>, AllocError>
-    ensures channels { IfOk result (λ all. all.items ≡ site_spec.channels site.now) }
-    ensures once { StandOnce (site_spec.channels site.now) }
+    ensures { IfOk result (λ all. all.items ≡ site_spec.channels site.now) }
 {
-    // its contract hands out that no channel stands twice
-    let _cells = site.cells();
     let mut all = Vec::new(alloc);
     for place in 0..site.channels() {
         push_at(&mut all, site, place)?;
@@ -71,18 +65,26 @@ fn channels_of<A: Allocator + Copy>(alloc: A, site: &Site<A>) -> Result<Vec<Chan
     Ok(all)
 }
 
+/// Whether the release of a channel is awaited in this state.
+fn is_off(state: ChanState) -> bool
+    ensures { result ≡ (channel_row state).off }
+{
+    match state {
+        ChanState::Off => true,
+        ChanState::Free | ChanState::Held(_) | ChanState::Pending(_) | ChanState::On(_) => false,
+    }
+}
+
 /// A channel comes to be off, if its release is awaited.
 fn add_if_off<A: Allocator + Copy>(
     events: &mut Vec<Event, A>,
-    known: &mut Book<A>,
+    book: &Book<A>,
     chan: ChanId,
 ) -> Result<(), AllocError>
-    ensures events { OnOk result (events.new.items ≡ events.old.items
-        ++ off_events chan (state_of known.old chan)) }
-    ensures others { OnOk result ((y : ChanId) → y ≢ chan →
-        state_of known.new y ≡ state_of known.old y) }
+    ensures { OnOk result (events.new.items ≡ events.old.items
+        ++ off_events chan (state_of book.now chan)) }
 {
-    if take_release(known, chan)? {
+    if is_off(book.state(chan)) {
         events.extend_from_slice(&[Event::Open(0, chan), Event::Clear(0)])?;
     }
     Ok(())
@@ -91,15 +93,14 @@ fn add_if_off<A: Allocator + Copy>(
 /// The channels whose release is awaited come to be off.
 fn add_off<A: Allocator + Copy>(
     events: &mut Vec<Event, A>,
-    known: &mut Book<A>,
+    book: &Book<A>,
     channels: &[ChanId],
 ) -> Result<(), AllocError>
-    requires once { StandOnce channels.now }
     ensures { OnOk result (events.new.items ≡ events.old.items
-        ++ flat_map (λ x. off_events x (state_of known.old x)) channels.now) }
+        ++ flat_map (λ x. off_events x (state_of book.now x)) channels.now) }
 {
     for chan in channels {
-        add_if_off(events, known, *chan)?;
+        add_if_off(events, book, *chan)?;
     }
     Ok(())
 }
@@ -109,12 +110,9 @@ fn listed_events<A: Allocator + Copy>(alloc: A, book: &Book<A>) -> Result<Vec<Ev
     ensures { IfOk result (λ events. events.items ≡ opening_events book.now) }
 {
     let channels = channels_of(alloc, book.site())?;
-    let mut known = book.copy()?;
-    let mut calls = Vec::new(alloc);
-    add_calls(&mut calls, &mut known, &channels)?;
     let mut events = Vec::new(alloc);
-    add_off(&mut events, &mut known, &channels)?;
-    events.extend_from_slice(&calls)?;
+    add_off(&mut events, book, &channels)?;
+    add_calls(&mut events, book, &channels)?;
     Ok(events)
 }
 

@@ -20,7 +20,7 @@ use Rattle.cell_table.specs.Site.{SiteView, slots_with, is_traffic}
 use Rattle.channel_fsm.specs.declared.ChanEvent.TheVariants.{Send}
 use Rattle.radio_book.specs.Channels.{entry_of, channel_step}
 use Rattle.radio_book.specs.State.{State, or_free, state_of, record_of}
-use Rattle.radio_book.specs.Sound.{IsSound, HasTarget}
+use Rattle.radio_book.specs.Sound.{IsSound, HasTarget, armed_in}
 use Rattle.radio_book.specs.Table.{Refuses, MayBeRefused, in_way, step, begin_row, with_entry}
 use Rattle.radio_tables.specs.Stages.{stage_row, sent_inverses, opening_inverse}
 use Rattle.radio_book.specs.Journal.{journal_of, or_zero, or_origin}
@@ -64,6 +64,10 @@ no_entry b x sound none = by (map.get b.channels x) refl
     by : (o : Option ChanState) → map.get b.channels x ≡ o → o ≡ None
     by None e = refl
     by (Some s) e = absurd (sound.not_free x s e (sym (ap or_free e) ∙ way_free b x none))
+
+-- no timer is armed for a call that isn't there
+pub unarmed : (b : State) (c : ℕ) → IsSound b → record_of b c ≡ None → map.get b.timers c ≡ None
+unarmed b c sound none = sound.timers c ∙ ap armed_in none
 
 -- an attempt of the call that has the channel as its target keeps its inverses at the stage
 abbrev pub MayMove : ℕ → ChanId → Stage → State → Type 0

@@ -1,7 +1,7 @@
 //! The radio book.
 ghost use Rattle.std.specs.Prelude.{◌≡◌, ◌↔◌, ℕ, Option, Ok, None, IsOk, OnOk, OnErr, IfOk, IfSome, MatchOption, IsTrue, false};
 ghost use Rattle.std.specs.FinMap as map;
-ghost use Rattle.radio_book.specs.State.{empty_book, state_code};
+ghost use Rattle.radio_book.specs.State.{empty_book, state_code, state_of, record_of};
 ghost use Rattle.radio_tables.specs.Same.{is_same, is_same-IsEquivalence};
 ghost use Rattle.std.specs.Cmp.{partial_equiv_from_equiv};
 ghost use Rattle.radio_book.specs.Sound.{IsSound};
@@ -11,13 +11,13 @@ ghost use Rattle.radio_book.specs.declared.event.Event.{Event};
 ghost use Rattle.radio_book.specs.declared.event.Kind.{Kind};
 ghost use Rattle.radio_book.specs.declared.event.Why.{Why};
 ghost use Rattle.radio_book.specs.Journal.{journal_of, run_back};
-ghost use Rattle.radio_book.specs.Table.{step, reply_to, row, NeedsRoom, MayNeedRoom, MayBeRefused};
+ghost use Rattle.radio_book.specs.Table.{owner, step, reply_to, row, NeedsRoom, MayNeedRoom, MayBeRefused};
 ghost use Rattle.radio_book.specs.Choice.{IsFreeAt, NoneFree, NoneFreeAt, TakesFree, OpensFree, ReservesFree, IsFreeCount};
 
-use crate::event::{Event, Kind, Reply};
+use crate::event::{CallRecord, Event, Kind, Reply, Timer};
 use crate::records::Records;
 use cell_table::Site;
-use channel_fsm::{ChanId, Rate};
+use channel_fsm::{ChanId, ChanState, Rate};
 use radio_tables::DenseTables;
 use std::alloc::{AllocError, Allocator, Global};
 use std::marker::Model;
@@ -136,6 +136,34 @@ impl<A: Allocator + Copy> Book<A> {
         ensures channels { result ≡ map.len self.now.channels }
     {
         self.records.channels()
+    }
+
+    /// The state of a channel; one that isn't in use has that of a free one. Takes no memory.
+    pub fn state(&self, chan: ChanId) -> ChanState
+        ensures state { result ≡ state_of self.now chan }
+    {
+        self.records.state_of(chan)
+    }
+
+    /// The call whose a channel is; `None` where it is free, or off. Takes no memory.
+    pub fn owner(&self, chan: ChanId) -> Option<u16>
+        ensures owner { result ≡ owner (state_of self.now chan) }
+    {
+        self.records.owner_of(chan)
+    }
+
+    /// The record of a call; `None` where there is no such call. Takes no memory.
+    pub fn record(&self, call: u16) -> Option<CallRecord>
+        ensures record { result ≡ record_of self.now call }
+    {
+        self.records.record(call)
+    }
+
+    /// The timer that is armed for a call; `None` where none is, or where there is no such call. Takes no memory.
+    pub fn timer(&self, call: u16) -> Option<Timer>
+        ensures timer { result ≡ map.get self.now.timers call }
+    {
+        self.records.timer(call)
     }
 
     /// Does nothing; its contract hands out that every book is sound.

@@ -1,7 +1,6 @@
 //! All settled attempts of a desk's history, taken out together, as they were worked out by hand; and the marks of one.
 use super::{
-    ACTIVATE, RELEASED, RESERVE, TAKE, UNDO, all_but, at_a_new_book, at_a_new_desk, desk_of,
-    equals_at, holds_at,
+    ACTIVATE, RELEASED, RESERVE, TAKE, UNDO, all_but, at_a_new_book, desk_of, equals_at, holds_at,
 };
 use radio_book::book::Book;
 use radio_book::event::Event;
@@ -73,26 +72,6 @@ fn judge_all<A: Allocator + Copy>(desk: &mut Desk<A>, events: &[Event]) -> Resul
     let mut seat = Seat::new();
     for event in events {
         desk.judge(&mut seat, *event)?;
-    }
-    Ok(())
-}
-
-fn is_audited(rt: &impl Abort, desk: &mut Desk<Global>, row: &Row) -> Result<(), Fail> {
-    let (events, attempts, held, same) = *row;
-    judge_all(desk, events)?;
-    let wanted = Audit {
-        attempts,
-        held,
-        same,
-    };
-    equals_at(rt, desk.audit()?, wanted, events);
-    Ok(())
-}
-
-#[test]
-fn histories_are_audited(rt: HostRuntime) -> Result<(), Fail> {
-    for row in AUDITED {
-        at_a_new_desk(&rt, |rt, desk| is_audited(rt, desk, row))?;
     }
     Ok(())
 }

@@ -1,9 +1,7 @@
 use channel_fsm::ChanEvent::{Begin, Confirm, Drop, Refuse, Released, Send, SwitchOff, Take};
 use channel_fsm::ChanState::{Free, Held, Off, On, Pending};
 use channel_fsm::{ChanEvent, ChanId, ChanState, Sub, conflicts, next};
-use std::alloc::Global;
 use std::process::Abort;
-use std::test::Fail;
 
 /// Every event, two of them for another call than the channel's.
 const EVENTS: [ChanEvent; 11] = [
@@ -129,19 +127,6 @@ fn channel(tn: u8, sub: Sub) -> ChanId {
         tn,
         sub,
     }
-}
-
-fn prints(rt: &impl Abort, alloc: Global, sub: Sub, text: &str) -> Result<(), Fail> {
-    let printed = format!(in alloc; "{}", channel(7, sub))?;
-    assert_eq!(rt; printed.as_str(), text);
-    Ok(())
-}
-
-#[test]
-fn names_are_printed(rt: HostRuntime) -> Result<(), Fail> {
-    prints(&rt, rt.alloc(), Sub::Full, "63/3/7")?;
-    prints(&rt, rt.alloc(), Sub::Half0, "63/3/7/0")?;
-    prints(&rt, rt.alloc(), Sub::Half1, "63/3/7/1")
 }
 
 const SUBS: [Sub; 3] = [Sub::Full, Sub::Half0, Sub::Half1];

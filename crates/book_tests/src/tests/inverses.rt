@@ -1,5 +1,5 @@
 use attempt_journal::Inverse::{
-    Disarm, DropReference, Forget, FreeChannel, Rearm, Settle, SwitchOff, Undetect,
+    Disarm, DropReference, Forget, FreeChannel, Rearm, SwitchOff, Undetect,
 };
 use attempt_journal::{Inverse, Journal, Timer};
 use channel_fsm::{ChanId, Sub};
@@ -55,18 +55,4 @@ fn seven_come_back_last_first(rt: HostRuntime) {
     pops(&rt, &mut journal);
     assert_eq!(rt; again.len(), 7);
     pops(&rt, &mut again);
-}
-
-#[test]
-fn what_is_pushed_after_a_pop_comes_back_before_the_rest(rt: HostRuntime) {
-    let mut journal = Journal::new();
-    journal.push(Settle);
-    journal.push(FreeChannel(TARGET));
-    assert_eq!(rt; journal.pop(), Some(FreeChannel(TARGET)));
-    assert_eq!(rt; journal.len(), 1);
-    journal.push(DropReference(7));
-    assert_eq!(rt; journal.len(), 2);
-    assert_eq!(rt; journal.pop(), Some(DropReference(7)));
-    assert_eq!(rt; journal.pop(), Some(Settle));
-    assert_eq!(rt; journal.pop(), None);
 }

@@ -6,11 +6,12 @@ ghost use Rattle.cell_table.specs.Site.{TrafficLiesWithin, is_traffic};
 ghost use Rattle.channel_fsm.specs.declared.ChanState.TheVariants as chan;
 ghost use Rattle.radio_tables.specs.State.{with_kept};
 ghost use Rattle.radio_book.specs.State.{apply, state_of, record_of};
+ghost use Rattle.radio_book.specs.Sound.{IsSound};
 ghost use Rattle.channel_fsm.specs.Slots.{is_used};
 ghost use Rattle.timeslots.specs.Parts.{needs};
 ghost use Rattle.radio_book.specs.Table.{in_way, no_change, with_entry, without_entry};
 
-use crate::event::{CallRecord, Reference};
+use crate::event::{CallRecord, Reference, Timer};
 use crate::records::Records;
 use channel_fsm::{ChanId, ChanState, Sub};
 use radio_tables::CallEntry;
@@ -40,7 +41,7 @@ impl<T: Tables> Records<T> {
     }
 
     /// The state of a channel; one that isn't in use has that of a free one.
-    pub(super) fn state_of(&self, x: ChanId) -> ChanState
+    pub(crate) fn state_of(&self, x: ChanId) -> ChanState
         ensures { result ≡ state_of self.now x }
     {
         self.channel(x).unwrap_or(ChanState::Free)
@@ -105,10 +106,22 @@ impl<T: Tables> Records<T> {
         self.tables.entry(call)
     }
 
-    pub(super) fn record(&self, call: u16) -> Option<CallRecord>
+    pub(crate) fn record(&self, call: u16) -> Option<CallRecord>
         ensures { result ≡ record_of self.now call }
     {
         self.tables.record_of(call)
+    }
+
+    /// The timer that is armed for a call.
+    #[tactic(auto, using(crate::proofs::RecordFacts::unarmed))]
+    pub(crate) fn timer(&self, call: u16) -> Option<Timer>
+        requires { IsSound self.now }
+        ensures { result ≡ map.get self.now.timers call }
+    {
+        match self.entry(call) {
+            Some(entry) => entry.timer(),
+            None => None,
+        }
     }
 
     /// A call begins.

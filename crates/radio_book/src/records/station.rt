@@ -3,9 +3,9 @@ ghost use Rattle.std.specs.Prelude.{◌≡◌, Some};
 ghost use Rattle.radio_tables.specs.declared.kinds.Attempt.{Attempt};
 ghost use Rattle.radio_tables.specs.declared.kinds.CallRecord.{CallRecord};
 ghost use Rattle.radio_book.specs.declared.event.Event.TheVariants as event;
-ghost use Rattle.radio_book.specs.State.{apply, record_of};
+ghost use Rattle.radio_book.specs.State.{apply, state_of, record_of};
 ghost use Rattle.radio_book.specs.Sound.{IsSound};
-ghost use Rattle.radio_book.specs.Table.{step, reply_to, no_change, moved_entry};
+ghost use Rattle.radio_book.specs.Table.{owner, step, reply_to, no_change, moved_entry};
 ghost use Rattle.radio_book.specs.Journal.{journal_of};
 
 use crate::event::{Refusal, Reply, Stage};
@@ -95,6 +95,16 @@ impl<T: Tables> Records<T> {
         entry.detect(attempt);
         self.set_record(call, entry);
         Reply::Owned(call)
+    }
+
+    /// The call whose a channel is.
+    pub(crate) fn owner_of(&self, x: ChanId) -> Option<u16>
+        ensures { result ≡ owner (state_of self.now x) }
+    {
+        match self.state_of(x) {
+            ChanState::Held(call) | ChanState::Pending(call) | ChanState::On(call) => Some(call),
+            ChanState::Free | ChanState::Off => None,
+        }
     }
 
     pub(super) fn owner(&self, x: ChanId) -> Reply

@@ -1,4 +1,3 @@
-use Rattle.std.proofs.Common.{◌≡◌, ◌++◌, get_or, ◌∙◌, ap}
 use Rattle.timeslots.specs.declared.Sub.TheVariants.{Full}
 use Rattle.channel_fsm.specs.declared.ChanId.{ChanId}
 use Rattle.opening_events.specs.Opening.{events_at}
@@ -10,19 +9,8 @@ none = record { cell = 0; trx = 0; tn = 0; sub = Full }
 
 pub loop-chan-preserved : goal.loop-chan-preserved
 loop-chan-preserved g c =
-    let xs = c.args.channels.now in
-    let i = c.loop-chan.chan-index in
-    let b = c.args.known.now in
-    record {
-      events =
-          one_more (events_at b) xs i none c.loop-chan.events.items c.add_at.new.events.items _ c.loop-chan-test.true
-          (c.in_ok-add_at.ensures.events ∙ ap (λ k. c.loop-chan.events.items ++ events_at k (get_or xs i none)) c.loop-chan.invariant.kept)
-          c.loop-chan.invariant.events;
-      kept = c.in_ok-add_at.ensures.kept ∙ c.loop-chan.invariant.kept;
-    }
+    one_more (events_at c.args.book.now) c.args.channels.now c.loop-chan.chan-index none c.loop-chan.events.items c.add_at.new.events.items _ c.loop-chan-test.true
+    c.in_ok-add_at.ensures c.loop-chan.invariant
 
 pub returns : goal.returns
-returns g c = record {
-  events = no_more (events_at c.args.known.now) c.args.channels.now c.loop-chan.chan-index c.loop-chan.events.items _ c.loop-chan-test.false c.loop-chan.invariant.events;
-  kept = c.loop-chan.invariant.kept;
-}
+returns g c = no_more (events_at c.args.book.now) c.args.channels.now c.loop-chan.chan-index c.loop-chan.events.items _ c.loop-chan-test.false c.loop-chan.invariant

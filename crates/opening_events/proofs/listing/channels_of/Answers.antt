@@ -1,8 +1,8 @@
-use Rattle.std.proofs.Common.{◌≡◌, ◌+◌, ◌≤◌, ◌++◌, length, take, slice_get, sym, ◌∙◌, ap, add-one, arith}
+use Rattle.std.proofs.Common.{◌+◌, ◌≤◌, ◌++◌, length, take, slice_get, sym, ◌∙◌, ap, add-one, arith}
 use Rattle.std.proofs.lemmas.List.{take_all}
 use Rattle.std.specs.Option.{option_to_list}
 use Rattle.cell_table.specs.Site.{channels}
-use Rattle.opening_events.proofs.Parts.{take_next, stand_once}
+use Rattle.opening_events.proofs.Parts.{take_next}
 use Rattle.opening_events.proofs.listing.channels_of.Goals as goal
 
 pub loop-place-preserved : goal.loop-place-preserved
@@ -15,7 +15,4 @@ pub returns : goal.returns
 returns g c =
     let xs = channels c.args.site.now in
     let enough : length xs ≤ c.loop-place.place = omega (arith, c.channels-place-end.ensures, c.loop-place-test.false) in
-    record {
-      channels = c.loop-place.invariant ∙ take_all c.loop-place.place xs enough;
-      once = stand_once c.args.site.now c.cells-cells.ensures.limits;
-    }
+    c.loop-place.invariant ∙ take_all c.loop-place.place xs enough
