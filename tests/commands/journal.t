@@ -97,7 +97,7 @@ cut. What stands behind zeros makes them damage.
   resumed after line 5: channels=1 calls=1
   m3/00000000000000000000.journal: the record behind line 4 was cut, and is dropped
   resumed after line 4: channels=1 calls=1
-  mx/00000000000000000000.journal: record 6 is damaged
+  mx/00000000000000000000.journal: record 6 is damaged; a cut behind octet 621 (truncate -s 621) leaves a whole journal, and gives up the records from 6 on, of which none is whole
   resumed after line 5: channels=1 calls=1
 
 Refused are a damaged record, another site, another version, what is no journal, and a file under another name; and nothing is
@@ -105,7 +105,7 @@ changed.
 
   $ cp -r k n; sed -i 's/^in open 1 0 0 3/in open 1 0 0 2/' n/*.journal; cp -r n old
   $ ./lab live examples/two_cells.toml --journal n </dev/null
-  n/00000000000000000000.journal: record 1 is damaged
+  n/00000000000000000000.journal: record 1 is damaged; a cut behind octet 101 (truncate -s 101) leaves a whole journal, and gives up the records from 1 on, of which 5 is the last that is whole
   [2]
   $ diff -r n old
   $ ./lab live examples/one_cell.toml --journal k </dev/null
@@ -124,6 +124,29 @@ changed.
   $ ./lab live examples/two_cells.toml --journal u </dev/null
   u/00000000000000000007.journal: the head of the journal has another number than the file's name
   [2]
+
+A hole is refused, too: zeros, and a whole record behind them. It is said where the file can be cut. (The head ends behind octet
+101, and each record has 67 octets and a body of 37.)
+
+  $ for n in 1 2 3 4; do echo clear $n; done | ./lab live examples/two_cells.toml --journal hole >/dev/null
+  $ cat >holed <<'END'
+  > import sys
+  > octets = open(sys.argv[1], "rb").read()
+  > at, behind = (octets.index(b"record 0000000000000000000%d " % number) for number in (3, 4))
+  > open(sys.argv[1], "wb").write(octets[:at] + bytes(behind - at) + octets[behind:])
+  > END
+  $ python3 holed hole/*.journal; cp -r hole hole.before
+  $ ./lab live examples/two_cells.toml --journal hole </dev/null
+  hole/00000000000000000000.journal: record 3 is damaged; a cut behind octet 309 (truncate -s 309) leaves a whole journal, and gives up the records from 3 on, of which 4 is the last that is whole
+  [2]
+  $ diff -r hole hole.before
+  $ truncate -s 309 hole/*.journal
+  $ ./lab live examples/two_cells.toml --journal hole --heard 3 </dev/null
+  hole: no file has the line that was heard
+  [2]
+  $ ./lab live examples/two_cells.toml --journal hole --heard 2 </dev/null
+  resumed after line 2: channels=0 calls=0
+  end channels=0 calls=0 references=0 timers=0
 
 Refused are a newest file that is empty, or can't be read, and a folder without a name.
 
@@ -312,6 +335,49 @@ An old file that somebody removed hinders none.
   00000000000000000006.journal
   lock
 
+A journal's folder is known by more than its path: where it is moved its files go with it. None comes into another folder at that
+path, and none is removed there.
+
+  $ told() { until grep -q "^in clear $1" said || grep -q ends said; do sleep 0.1; done; }
+  $ tell() { for n in "$@"; do echo clear $n >&4; told $n; done; }
+  $ mkfifo in4; ./lab live examples/two_cells.toml --journal moved --history 1 --keep 1 <in4 >said 2>&1 & exec 4>in4
+  $ tell 1; mv moved away; for n in 1 2; do echo clear 9; done | ./lab live examples/two_cells.toml --journal moved --history 1 >/dev/null
+  $ touch moved/begun.tmp; cp -r moved another; tell 2 3 4; exec 4>&-; wait
+  $ diff -r moved another; ls away
+  00000000000000000004.journal
+  lock
+  $ ./lab live examples/two_cells.toml --journal away </dev/null 2>&1 >/dev/null
+  resumed after line 4: channels=0 calls=0
+
+Where there is no /proc the folder at the path is looked at: the journal is lost with the next file, if it isn't the one that was
+locked, or isn't there.
+
+  $ bare() { unshare --user --map-root-user --mount sh -c 'mount -t tmpfs none /proc && exec "$0" "$@"' "$@"; }
+  $ bare ls /proc
+  $ bare ./lab live examples/two_cells.toml --journal bare --history 3 --keep 2 <lines 2>why | cmp - plain
+  $ ls bare
+  00000000000000000002.journal
+  00000000000000000003.journal
+  lock
+  $ rm -r moved away another; echo clear 9 | ./lab live examples/two_cells.toml --journal second >/dev/null; cp -r second another
+  $ mkfifo in5; bare ./lab live examples/two_cells.toml --journal moved --history 2 <in5 >said 2>why & exec 4>in5
+  $ tell 1; mv moved away; mv second moved; tell 2; exec 4>&-; wait; diff -r moved another; cat said; tail -1 why
+  in clear 1
+  event look 1 -> refused 1
+  in clear 2
+  event look 2 -> refused 1
+  moved: the folder at this path isn't the one that was locked; the controller ends
+  $ mkfifo in6; bare ./lab live examples/two_cells.toml --journal gone --history 2 --journal-lost go-on <in6 >said 2>why & exec 4>in6
+  $ tell 1; mv gone gone.away; tell 2 3; exec 4>&-; wait; sed 1,4d said; tail -1 why; ls gone
+  in clear 3
+  event look 3 -> refused 1
+  end channels=0 calls=0 references=0 timers=0
+  gone: the folder at this path isn't the one that was locked; the journal ends, and the controller goes on
+  ls: cannot access 'gone': No such file or directory
+  [2]
+  $ ./lab live examples/two_cells.toml --journal gone.away </dev/null 2>&1 >/dev/null
+  resumed after line 2: channels=0 calls=0
+
 A damaged file is none of a trace; a record at the end that was cut is passed over.
 
   $ ./lab audit examples/two_cells.toml n/*.journal
@@ -363,3 +429,46 @@ Where all lines are there at once, several are noted at once, and some of them m
   $ grep '^in \|^event ' end >left; head -n $(wc -l <left) three | cmp - left
   $ ./lab live examples/two_cells.toml --journal s-end </dev/null 2>&1 >/dev/null | grep resumed
   resumed after line 3: channels=0 calls=0
+
+On a full disk the last file can't be written anew: it is gone on with as it was, without a record that was cut. There is room up to
+its octet 4,096: for 33 lines more behind line 4, which ends with octet 614, each of 104 octets; and for 50 octets of one more.
+
+  $ cat >small <<'END'
+  > mount -t tmpfs -o size=64k none disk
+  > head -3 four | ./lab live examples/two_cells.toml --journal disk/j >/dev/null
+  > truncate -s -3 disk/j/*.journal
+  > head -c 65536 /dev/zero >disk/rest 2>/dev/null
+  > for entries in 100 1; do
+  >   echo clear 9 | ./lab live examples/two_cells.toml --journal disk/j --history $entries --heard 0 2>&1
+  >   ls disk/j
+  > done
+  > yes clear 9 | head -99 | ./lab live examples/two_cells.toml --journal disk/j 2>&1 | grep -v '^in \|^event '
+  > ./lab live examples/two_cells.toml --journal disk/new </dev/null
+  > rm disk/rest; ./lab live examples/two_cells.toml --journal disk/j </dev/null
+  > END
+  $ mkdir disk; unshare --user --map-root-user --mount sh small
+  disk/j: no space left; the last file isn't written anew, and goes on as it was
+  disk/j/00000000000000000000.journal: the record behind line 2 was cut, and is dropped
+  resumed after line 2: channels=1 calls=1
+  1: out abis 0 0 0821010b0300060400010801
+  in clear 9
+  event look 9 -> refused 1
+  end channels=1 calls=1 references=0 timers=0
+  00000000000000000000.journal
+  lock
+  disk/j: no space left; the last file isn't written anew, and goes on as it was
+  resumed after line 3: channels=1 calls=1
+  1: out abis 0 0 0821010b0300060400010801
+  in clear 9
+  event look 9 -> refused 1
+  disk/j: no space left; no file is begun, and the last one goes on
+  end channels=1 calls=1 references=0 timers=0
+  00000000000000000000.journal
+  lock
+  disk/j: no space left; the last file isn't written anew, and goes on as it was
+  resumed after line 4: channels=1 calls=1
+  disk/j: no space left; the controller ends
+  disk/new: no space left
+  disk/j/00000000000000000000.journal: the record behind line 37 was cut, and is dropped
+  resumed after line 37: channels=1 calls=1
+  end channels=1 calls=1 references=0 timers=0

@@ -36,6 +36,17 @@ standard error.
   [2]
   $ cat errors
   -: messages 1, refused 2
+
+A note can't steer a terminal: what would is shown by its escape, but for a tab, and an octet that is no UTF-8 by its number.
+
+  $ printf 'rr 062c00 # a\033[2Jb\tc\rd\302\205 \342\200\256 \377\303\nrr 062c00 #\351t\351\nrr 06 # \033]0;x\007\r\n' | ./lab decode --from - 2>/dev/null
+  1 HANDOVER COMPLETE cause=0 # a\\u{1b}[2Jb\tc\\rd\\u{85} \\u{202e} \\xff\\xc3 (esc)
+  2 HANDOVER COMPLETE cause=0 #\xe9t\xe9
+  3 fault rr 3 # \u{1b}]0;x\u{7}
+  [2]
+
+Where a link is asked for, no line begins with its own.
+
   $ printf 'rr 062c00\n' | ./lab decode rr --from - 2>errors
   1 hex
   [2]

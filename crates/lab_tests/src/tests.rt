@@ -1,12 +1,8 @@
-//! What no clause says, and no command line shows: refused memory, failing writes, charts of what no script brings, and each
-//! small piece.
+//! What no clause says, and no command line shows: refused memory, and failing writes.
 mod decoded;
-mod drawn;
 mod encoded;
 mod failing;
-mod packets;
 mod program;
-mod reasoned;
 mod refusals;
 mod rewound;
 mod shown;
@@ -88,17 +84,6 @@ fn printed<A: Allocator + Copy>(
     let mut out = Vec::new(scratch);
     let status = lab_run(alloc, scratch, site, peer, script, &mut out);
     Ok((status, String::from_utf8(out)?))
-}
-
-/// A command has ended so, and printed this.
-fn ends_so(
-    rt: &impl Abort,
-    (ended, text): (Result<Status, LabFault>, &str),
-    (wanted, printed): (Status, &str),
-    what: &str,
-) {
-    equals_at(rt, ended, Ok(wanted), (what, text));
-    equals_at(rt, text, printed, what);
 }
 
 /// A command has printed all of a text, or a front of it where memory was refused.

@@ -1,36 +1,10 @@
 //! The words of the command `explain`.
-use clap::{Arg, ArgAction, ArgMatches, Command, value_parser};
+use crate::rows::{ArgumentRow, CommandRow, Form, NUMBER, Rule, command, with};
+use crate::words::LINKS;
+use clap::builder::ValueParser;
+use clap::{ArgMatches, Command};
 use explanations::{LinkName, Question};
 use std::alloc::{AllocError, Global};
-
-/// The links by their names.
-const LINKS: &[&str] = &["rr", "a", "abis"];
-
-/// `LINK`
-fn link_argument<'a>(alloc: Global) -> Arg<'a> {
-    Arg::new(alloc, "LINK")
-        .required(true)
-        .action(ArgAction::Set)
-        .help("Where the number is from")
-        .value_parser(LINKS)
-}
-
-/// `N`
-fn number_argument<'a>(alloc: Global, help: &'a str) -> Arg<'a> {
-    Arg::new(alloc, "N")
-        .required(true)
-        .action(ArgAction::Set)
-        .help(help)
-        .value_parser(value_parser!(u8))
-}
-
-/// `ARGUMENT`
-fn argument_argument<'a>(alloc: Global) -> Arg<'a> {
-    Arg::new(alloc, "ARGUMENT")
-        .action(ArgAction::Set)
-        .help("The fault's argument, where it has one")
-        .value_parser(value_parser!(usize))
-}
 
 /// What stands behind the help of `explain` and of `explain refused`.
 const HELP: &str = "\
@@ -61,53 +35,94 @@ words of the command are wrong, 3 memory was refused.
 
 As in: bsc_lab explain fault abis 3 26";
 
+/// What `N` has to be.
+const OCTET: ValueParser<'static> = ValueParser::Signed(0, 255);
+
+/// `LINK`
+const LINK: ArgumentRow = ArgumentRow {
+    name: "LINK",
+    form: Form::Placed(LINKS),
+    help: "Where the number is from",
+    rules: &[Rule::Required],
+};
+
 /// `refused N`
+const REFUSED: CommandRow = CommandRow {
+    name: "refused",
+    about: "A refusal of the book, as in: explain refused 6",
+    after_help: HELP,
+    arguments: &[ArgumentRow {
+        name: "N",
+        form: Form::Placed(OCTET),
+        help: "The refusal's number, 1 to 9, as a trace shows it behind refused",
+        rules: &[Rule::Required],
+    }],
+};
+
+/// The command `explain refused`.
 fn refused_command<'a>(alloc: Global) -> Result<Command<'a>, AllocError> {
-    Command::new(alloc, "refused")
-        .about("A refusal of the book, as in: explain refused 6")
-        .after_help(HELP)
-        .arg(number_argument(
-            alloc,
-            "The refusal's number, 1 to 9, as a trace shows it behind refused",
-        ))
+    command(alloc, &REFUSED)
 }
 
 /// `cause LINK N`
+const CAUSE: CommandRow = CommandRow {
+    name: "cause",
+    about: "A cause that a message carries, as in: explain cause a 33",
+    after_help: CAUSE_HELP,
+    arguments: &[
+        LINK,
+        ArgumentRow {
+            name: "N",
+            form: Form::Placed(OCTET),
+            help: "The cause, 0 to 255, or in hexadecimal, 0x0 to 0xff",
+            rules: &[Rule::Required],
+        },
+    ],
+};
+
+/// The command `explain cause`.
 fn cause_command<'a>(alloc: Global) -> Result<Command<'a>, AllocError> {
-    Command::new(alloc, "cause")
-        .about("A cause that a message carries, as in: explain cause a 33")
-        .after_help(CAUSE_HELP)
-        .arg(link_argument(alloc))?
-        .arg(number_argument(alloc, "The cause, 0 to 255, or in hexadecimal, 0x0 to 0xff"))
+    command(alloc, &CAUSE)
 }
 
-/// `fault LINK N ARGUMENT`
+/// `fault LINK N [ARGUMENT]`
+const FAULT: CommandRow = CommandRow {
+    name: "fault",
+    about: "Why octets are no message, as in: explain fault abis 5",
+    after_help: FAULT_HELP,
+    arguments: &[
+        LINK,
+        ArgumentRow {
+            name: "N",
+            form: Form::Placed(OCTET),
+            help: "The fault's number, as a trace shows it: 1 to 6, on rr 1 to 4",
+            rules: &[Rule::Required],
+        },
+        ArgumentRow {
+            name: "ARGUMENT",
+            form: Form::Placed(NUMBER),
+            help: "The fault's argument, where it has one",
+            rules: &[],
+        },
+    ],
+};
+
+/// The command `explain fault`.
 fn fault_command<'a>(alloc: Global) -> Result<Command<'a>, AllocError> {
-    Command::new(alloc, "fault")
-        .about("Why octets are no message, as in: explain fault abis 5")
-        .after_help(FAULT_HELP)
-        .arg(link_argument(alloc))?
-        .arg(number_argument(
-            alloc,
-            "The fault's number, as a trace shows it: 1 to 6, on rr 1 to 4",
-        ))?
-        .arg(argument_argument(alloc))
+    command(alloc, &FAULT)
 }
 
-/// A command with one more of its own.
-fn with<'a>(
-    command: Command<'a>,
-    next: Result<Command<'a>, AllocError>,
-) -> Result<Command<'a>, AllocError> {
-    command.subcommand(next?)
-}
+/// `explain`, without what can be explained.
+const EXPLAIN: CommandRow = CommandRow {
+    name: "explain",
+    about: "Says in words what a number stands for, as in: explain refused 6",
+    after_help: HELP,
+    arguments: &[],
+};
 
-/// The command: `explain refused N`, `explain cause LINK N`, `explain fault LINK N [ARGUMENT]`.
+/// The command `explain`: `explain refused N`, `explain cause LINK N`, `explain fault LINK N [ARGUMENT]`.
 pub(crate) fn explain_command<'a>(alloc: Global) -> Result<Command<'a>, AllocError> {
-    let command = Command::new(alloc, "explain")
-        .about("Says in words what a number stands for, as in: explain refused 6")
-        .after_help(HELP)
-        .subcommand_required(true);
+    let command = command(alloc, &EXPLAIN)?.subcommand_required(true);
     let command = with(command, refused_command(alloc))?;
     let command = with(command, cause_command(alloc))?;
     with(command, fault_command(alloc))

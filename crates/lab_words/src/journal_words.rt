@@ -1,5 +1,7 @@
 //! The words of a controller with a journal, and of its history.
-use clap::{Arg, ArgAction, ArgMatches, Command, value_parser};
+use crate::rows::{ArgumentRow, COUNTED, Form, NUMBER, Rule, TEXT, with_arguments};
+use clap::builder::ValueParser;
+use clap::{ArgMatches, Command};
 use journal_files::WhenLost;
 use std::alloc::{AllocError, Global};
 
@@ -7,7 +9,7 @@ use std::alloc::{AllocError, Global};
 const ENTRIES: usize = 100_000;
 
 /// What a controller does whose journal is lost.
-const WHEN_LOST: &[&str] = &["end", "go-on"];
+const WHEN_LOST: ValueParser<'static> = ValueParser::Names(&["end", "go-on"]);
 
 /// The journal that a controller has.
 #[derive(Clone, Copy, Debug, PartialEq, Eq)]
@@ -22,66 +24,46 @@ pub struct JournalWords<'a> {
     pub when_lost: WhenLost,
 }
 
-/// `--history N`
-fn history_argument<'a>(alloc: Global) -> Arg<'a> {
-    Arg::new(alloc, "HISTORY")
-        .long("history")
-        .value_name("N")
-        .help("After N events asked of the book the history begins anew (else 100000)")
-        .value_parser(value_parser!(usize).range(1..))
-}
+/// `--history N`, `--journal FOLDER`, `--keep N`, `--heard M` and `--journal-lost WHAT`
+const OPTIONS: &[ArgumentRow] = &[
+    ArgumentRow {
+        name: "HISTORY",
+        form: Form::Valued("history", "N", COUNTED),
+        help: "After N events asked of the book the history begins anew (else 100000)",
+        rules: &[],
+    },
+    ArgumentRow {
+        name: "JOURNAL",
+        form: Form::Valued("journal", "FOLDER", TEXT),
+        help: "Notes in this folder what happened, and goes on from there next time",
+        rules: &[],
+    },
+    ArgumentRow {
+        name: "KEEP",
+        form: Form::Valued("keep", "N", COUNTED),
+        help: "Keeps the last N files of the journal, and removes older ones",
+        rules: &[Rule::Wants("JOURNAL")],
+    },
+    ArgumentRow {
+        name: "HEARD",
+        form: Form::Valued("heard", "M", NUMBER),
+        help: "Tells once more what was sent for the lines behind line M",
+        rules: &[Rule::Wants("JOURNAL")],
+    },
+    ArgumentRow {
+        name: "LOST",
+        form: Form::Valued("journal-lost", "WHAT", WHEN_LOST),
+        help: "Once it can't be written (else end)",
+        rules: &[Rule::Wants("JOURNAL")],
+    },
+];
 
-/// `--journal FOLDER`
-fn journal_argument<'a>(alloc: Global) -> Arg<'a> {
-    Arg::new(alloc, "JOURNAL")
-        .long("journal")
-        .value_name("FOLDER")
-        .action(ArgAction::Set)
-        .help("Notes in this folder what happened, and goes on from there next time")
-}
-
-/// `--keep N`
-fn keep_argument<'a>(alloc: Global) -> Result<Arg<'a>, AllocError> {
-    Arg::new(alloc, "KEEP")
-        .long("keep")
-        .value_name("N")
-        .help("Keeps the last N files of the journal, and removes older ones")
-        .value_parser(value_parser!(usize).range(1..))
-        .requires_arg("JOURNAL")
-}
-
-/// `--heard M`
-fn heard_argument<'a>(alloc: Global) -> Result<Arg<'a>, AllocError> {
-    Arg::new(alloc, "HEARD")
-        .long("heard")
-        .value_name("M")
-        .help("Tells once more what was sent for the lines behind line M")
-        .value_parser(value_parser!(u64))
-        .requires_arg("JOURNAL")
-}
-
-/// `--journal-lost WHAT`
-fn lost_argument<'a>(alloc: Global) -> Result<Arg<'a>, AllocError> {
-    Arg::new(alloc, "LOST")
-        .long("journal-lost")
-        .value_name("WHAT")
-        .action(ArgAction::Set)
-        .help("Once it can't be written (else end)")
-        .value_parser(WHEN_LOST)
-        .requires_arg("JOURNAL")
-}
-
-/// Adds to a command the options `--history N`, `--journal FOLDER`, `--keep N`, `--heard M` and `--journal-lost WHAT`.
+/// Adds to a command these options.
 pub(crate) fn journal_options<'a>(
     alloc: Global,
     command: Command<'a>,
 ) -> Result<Command<'a>, AllocError> {
-    command
-        .arg(history_argument(alloc))?
-        .arg(journal_argument(alloc))?
-        .arg(keep_argument(alloc)?)?
-        .arg(heard_argument(alloc)?)?
-        .arg(lost_argument(alloc)?)
+    with_arguments(alloc, command, OPTIONS)
 }
 
 /// After how many events the history begins anew.

@@ -5,6 +5,7 @@ mod explain_words;
 mod help;
 mod journal_words;
 mod refused_words;
+mod rows;
 mod script_words;
 mod site_paths;
 mod storm_words;

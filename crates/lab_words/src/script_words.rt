@@ -1,59 +1,72 @@
 //! The words of the commands that test and record scripts.
 use crate::help::{RECORD_HELP, TEST_HELP};
+use crate::rows::{ArgumentRow, CommandRow, Form, Rule, command};
 use crate::site_paths::SitePaths;
-use crate::words::{argument, peer_argument, with_script};
-use clap::{Arg, ArgAction, ArgMatches, Command};
+use crate::words::{PEER, SCRIPT, SITE};
+use clap::{ArgMatches, Command};
 use expectations::Recording;
 use std::alloc::{AllocError, Global};
 
-/// `--undo-everywhere`
-fn everywhere_argument<'a>(alloc: Global) -> Arg<'a> {
-    Arg::new(alloc, "everywhere")
-        .long("undo-everywhere")
-        .action(ArgAction::SetTrue)
-        .help("Takes each open attempt back behind each input, in a run of its own")
+/// `test SITE SCRIPT.. [--peer SITE] [--undo-everywhere]`
+const TEST: CommandRow = CommandRow {
+    name: "test",
+    about: "Runs scripts, and says which print what their comments expect (TAP)",
+    after_help: TEST_HELP,
+    arguments: &[
+        SITE,
+        ArgumentRow {
+            name: "SCRIPT",
+            form: Form::Several,
+            help: "The script files",
+            rules: &[Rule::Required],
+        },
+        PEER,
+        ArgumentRow {
+            name: "everywhere",
+            form: Form::Flag("undo-everywhere"),
+            help: "Takes each open attempt back behind each input, in a run of its own",
+            rules: &[],
+        },
+    ],
+};
+
+/// The command `test`.
+pub(crate) fn test_command<'a>(alloc: Global) -> Result<Command<'a>, AllocError> {
+    command(alloc, &TEST)
+}
+
+/// `record SITE SCRIPT [--peer SITE] [--words] [--states]`
+const RECORD: CommandRow = CommandRow {
+    name: "record",
+    about: "Runs a script and prints it with comments that expect what came of each line",
+    after_help: RECORD_HELP,
+    arguments: &[
+        SITE,
+        SCRIPT,
+        PEER,
+        ArgumentRow {
+            name: "words",
+            form: Form::Flag("words"),
+            help: "Expects messages in words, and leaves the line's echo out",
+            rules: &[],
+        },
+        ArgumentRow {
+            name: "states",
+            form: Form::Flag("states"),
+            help: "Also expects what the books hold: the channels in use, and each call",
+            rules: &[],
+        },
+    ],
+};
+
+/// The command `record`.
+pub(crate) fn record_command<'a>(alloc: Global) -> Result<Command<'a>, AllocError> {
+    command(alloc, &RECORD)
 }
 
 /// Whether each attempt is to be taken back at each point.
 pub(crate) fn is_everywhere(test: &ArgMatches<'_>) -> bool {
     test.get_flag("everywhere")
-}
-
-/// `test SITE SCRIPT.. [--peer SITE] [--undo-everywhere]`
-pub(crate) fn test_command<'a>(alloc: Global) -> Result<Command<'a>, AllocError> {
-    Command::new(alloc, "test")
-        .about("Runs scripts, and says which print what their comments expect (TAP)")
-        .after_help(TEST_HELP)
-        .arg(argument(alloc, "SITE", "The site file"))?
-        .arg(argument(alloc, "SCRIPT", "The script files").num_args(1..))?
-        .arg(peer_argument(alloc))?
-        .arg(everywhere_argument(alloc))
-}
-
-/// `--words` of `record`
-fn words_argument<'a>(alloc: Global) -> Arg<'a> {
-    Arg::new(alloc, "words")
-        .long("words")
-        .action(ArgAction::SetTrue)
-        .help("Expects messages in words, and leaves the line's echo out")
-}
-
-/// `--states`
-fn states_argument<'a>(alloc: Global) -> Arg<'a> {
-    Arg::new(alloc, "states")
-        .long("states")
-        .action(ArgAction::SetTrue)
-        .help("Also expects what the books hold: the channels in use, and each call")
-}
-
-/// `record SITE SCRIPT [--peer SITE] [--words] [--states]`
-pub(crate) fn record_command<'a>(alloc: Global) -> Result<Command<'a>, AllocError> {
-    let command = Command::new(alloc, "record")
-        .about("Runs a script and prints it with comments that expect what came of each line")
-        .after_help(RECORD_HELP);
-    with_script(alloc, command)?
-        .arg(words_argument(alloc))?
-        .arg(states_argument(alloc))
 }
 
 /// How a script is to be recorded.

@@ -2,8 +2,10 @@
 ghost use Rattle.std.specs.Prelude.{◌≡◌, ◌≤◌, IfSome};
 
 use crate::help::STORM_HELP;
-use crate::words::argument;
-use clap::{Arg, ArgAction, ArgMatches, Command, value_parser};
+use crate::rows::{ArgumentRow, CommandRow, Form, Rule, command};
+use crate::words::SITE;
+use clap::builder::ValueParser;
+use clap::{ArgMatches, Command};
 use std::alloc::{AllocError, Global};
 
 /// The most workers of a storm.
@@ -38,38 +40,31 @@ impl StormSize {
     }
 }
 
-/// `--workers N`
-fn workers_argument<'a>(alloc: Global) -> Arg<'a> {
-    Arg::new(alloc, "workers")
-        .long("workers")
-        .value_name("N")
-        .required(true)
-        .action(ArgAction::Set)
-        .help("How many workers handle the calls, 1 to 16: each is a thread with an inbox")
-        .value_parser(value_parser!(u8).range(1..=16))
-}
-
-/// `--calls M`
-fn calls_argument<'a>(alloc: Global) -> Arg<'a> {
-    Arg::new(alloc, "calls")
-        .long("calls")
-        .value_name("M")
-        .required(true)
-        .action(ArgAction::Set)
-        .help("How many calls there are, 1 to 1024")
-        .value_parser(value_parser!(u16).range(1..=1024))
-}
-
 /// `storm SITE --workers N --calls M`
+const STORM: CommandRow = CommandRow {
+    name: "storm",
+    about: "Moves many calls at once, handled by workers on threads, and prints what came of it",
+    after_help: STORM_HELP,
+    arguments: &[
+        SITE,
+        ArgumentRow {
+            name: "workers",
+            form: Form::Valued("workers", "N", ValueParser::Signed(1, 16)),
+            help: "How many workers handle the calls, 1 to 16: each is a thread with an inbox",
+            rules: &[Rule::Required],
+        },
+        ArgumentRow {
+            name: "calls",
+            form: Form::Valued("calls", "M", ValueParser::Signed(1, 1024)),
+            help: "How many calls there are, 1 to 1024",
+            rules: &[Rule::Required],
+        },
+    ],
+};
+
+/// The command `storm`.
 pub(crate) fn storm_command<'a>(alloc: Global) -> Result<Command<'a>, AllocError> {
-    Command::new(alloc, "storm")
-        .about(
-            "Moves many calls at once, handled by workers on threads, and prints what came of it",
-        )
-        .after_help(STORM_HELP)
-        .arg(argument(alloc, "SITE", "The site file"))?
-        .arg(workers_argument(alloc))?
-        .arg(calls_argument(alloc))
+    command(alloc, &STORM)
 }
 
 /// How great the storm is that was asked for.

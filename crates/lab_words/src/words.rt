@@ -8,17 +8,18 @@ use crate::help::{
 };
 use crate::journal_words::{JournalWords, entries_of, journal_of, journal_options};
 use crate::refused_words::refused_line;
+use crate::rows::{ArgumentRow, COUNTED, CommandRow, Form, Rule, TEXT, command, with};
 use crate::script_words::{
     is_everywhere, record_command, recording_of, script_paths, site_paths, test_command,
 };
 use crate::site_paths::SitePaths;
 use crate::storm_words::{StormSize, storm_command, storm_size};
 use crate::view_words::{
-    Ending, audit_argument, ending_of, form_of, json_argument, live_view_options, live_views_of,
-    view_options, views_of,
+    Ending, ending_of, form_of, live_view_options, live_views_of, view_options, views_of,
 };
+use clap::builder::ValueParser;
 use clap::error::ErrorKind;
-use clap::{Arg, ArgAction, ArgMatches, Command, Error, value_parser};
+use clap::{ArgMatches, Command, Error};
 use decoded_lines::{Asked, Detail, LinkName, link_named};
 use expectations::Recording;
 use explanations::Question;
@@ -134,95 +135,302 @@ impl From<AllocError> for WordsFault {
 }
 
 /// The links by their names.
-const LINKS: &[&str] = &["rr", "a", "abis"];
+pub(crate) const LINKS: ValueParser<'static> = ValueParser::Names(&["rr", "a", "abis"]);
 
 /// The link of this name.
 fn link(name: &str) -> Option<LinkName> {
     link_named(name.as_bytes())
 }
 
-/// An argument that has to be given, by its place.
-pub(crate) fn argument<'a>(alloc: Global, name: &'a str, help: &'a str) -> Arg<'a> {
-    Arg::new(alloc, name)
-        .required(true)
-        .action(ArgAction::Set)
-        .help(help)
-}
+/// `SITE`
+pub(crate) const SITE: ArgumentRow = ArgumentRow {
+    name: "SITE",
+    form: Form::Placed(TEXT),
+    help: "The site file",
+    rules: &[Rule::Required],
+};
+
+/// `SCRIPT`
+pub(crate) const SCRIPT: ArgumentRow = ArgumentRow {
+    name: "SCRIPT",
+    form: Form::Placed(TEXT),
+    help: "The script file",
+    rules: &[Rule::Required],
+};
 
 /// `--peer SITE`
-pub(crate) fn peer_argument<'a>(alloc: Global) -> Arg<'a> {
-    Arg::new(alloc, "PEER")
-        .long("peer")
-        .value_name("SITE")
-        .action(ArgAction::Set)
-        .help("The site file of a second controller, for lines of the script with 2:")
-}
+pub(crate) const PEER: ArgumentRow = ArgumentRow {
+    name: "PEER",
+    form: Form::Valued("peer", "SITE", TEXT),
+    help: "The site file of a second controller, for lines of the script with 2:",
+    rules: &[],
+};
 
-/// `SITE SCRIPT [--peer SITE]`
-pub(crate) fn with_script<'a>(
-    alloc: Global,
-    command: Command<'a>,
-) -> Result<Command<'a>, AllocError> {
-    command
-        .arg(argument(alloc, "SITE", "The site file"))?
-        .arg(argument(alloc, "SCRIPT", "The script file"))?
-        .arg(peer_argument(alloc))
-}
+/// `run SITE SCRIPT [--peer SITE]`
+const RUN: CommandRow = CommandRow {
+    name: "run",
+    about: "Runs a script over a site and prints the trace",
+    after_help: RUN_HELP,
+    arguments: &[SITE, SCRIPT, PEER],
+};
 
-/// `run SITE SCRIPT [--peer SITE]`, and the views of the run
+/// The command `run`, with the views of the run.
 fn run_command<'a>(alloc: Global) -> Result<Command<'a>, AllocError> {
-    let command = Command::new(alloc, "run")
-        .about("Runs a script over a site and prints the trace")
-        .after_help(RUN_HELP);
-    let command = view_options(alloc, with_script(alloc, command)?)?;
-    command.arg(audit_argument(alloc))
+    view_options(alloc, command(alloc, &RUN)?)
 }
 
-/// `live SITE`, the views that are shown line by line, and the journal
+/// `live SITE`
+const LIVE: CommandRow = CommandRow {
+    name: "live",
+    about: "Runs the script lines of standard input as they come, and prints the trace",
+    after_help: LIVE_HELP,
+    arguments: &[SITE],
+};
+
+/// The command `live`, with the views that are shown line by line, and the journal.
 fn live_command<'a>(alloc: Global) -> Result<Command<'a>, AllocError> {
-    let command = Command::new(alloc, "live")
-        .about("Runs the script lines of standard input as they come, and prints the trace")
-        .after_help(LIVE_HELP)
-        .arg(argument(alloc, "SITE", "The site file"))?;
-    journal_options(alloc, live_view_options(alloc, command)?)
+    journal_options(alloc, live_view_options(alloc, command(alloc, &LIVE)?)?)
 }
 
 /// `check SITE`
+const CHECK: CommandRow = CommandRow {
+    name: "check",
+    about: "Reads a site and prints its cells, and what is surely meant otherwise",
+    after_help: CHECK_HELP,
+    arguments: &[SITE],
+};
+
+/// The command `check`.
 fn check_command<'a>(alloc: Global) -> Result<Command<'a>, AllocError> {
-    Command::new(alloc, "check")
-        .about("Reads a site and prints its cells, and what is surely meant otherwise")
-        .after_help(CHECK_HELP)
-        .arg(argument(alloc, "SITE", "The site file"))
+    command(alloc, &CHECK)
 }
 
 /// `rewind SITE TRACE LINE` or `rewind SITE TRACE --all [--peer SITE]`
+const REWIND: CommandRow = CommandRow {
+    name: "rewind",
+    about: "Takes an undone attempt at handover out of a trace, and compares what is left",
+    after_help: REWIND_HELP,
+    arguments: &[
+        SITE,
+        TRACE,
+        ArgumentRow {
+            name: "LINE",
+            form: Form::Placed(COUNTED),
+            help: "The line in which the attempt opens (event take or event require), counted from 1",
+            rules: &[Rule::Unless("all")],
+        },
+        ArgumentRow {
+            name: "all",
+            form: Form::Flag("all"),
+            help: "Prints a line for each undone attempt, also of two controllers",
+            rules: &[Rule::Excludes("LINE")],
+        },
+        // what is required is passed over where something that excludes it is given, as the line is
+        ArgumentRow {
+            name: "PEER",
+            form: Form::Valued("peer", "SITE", TEXT),
+            help: "The site file of a second controller, for lines of the trace with 2:",
+            rules: &[Rule::Wants("all"), Rule::Excludes("LINE")],
+        },
+    ],
+};
+
+/// The command `rewind`.
 fn rewind_command<'a>(alloc: Global) -> Result<Command<'a>, AllocError> {
-    Command::new(alloc, "rewind")
-        .about("Takes an undone attempt at handover out of a trace, and compares what is left")
-        .after_help(REWIND_HELP)
-        .arg(argument(alloc, "SITE", "The site file"))?
-        .arg(trace_argument(alloc))?
-        .arg(line_argument(alloc)?)?
-        .arg(each_argument(alloc)?)?
-        .arg(sides_argument(alloc)?)
+    command(alloc, &REWIND)
 }
 
-/// `--peer SITE` of `rewind`, with `--all` alone.
-fn sides_argument<'a>(alloc: Global) -> Result<Arg<'a>, AllocError> {
-    // what is required is passed over where something that excludes it is given, as the line is
-    peer_argument(alloc)
-        .help("The site file of a second controller, for lines of the trace with 2:")
-        .requires_arg("all")?
-        .conflicts_with("LINE")
+/// `TRACE`
+const TRACE: ArgumentRow = ArgumentRow {
+    name: "TRACE",
+    form: Form::Placed(TEXT),
+    help: "The trace, as run prints it from the empty book on",
+    rules: &[Rule::Required],
+};
+
+/// `audit SITE TRACE`
+const AUDIT: CommandRow = CommandRow {
+    name: "audit",
+    about: "Takes all undone attempts at handover out of a trace, and compares what is left",
+    after_help: AUDIT_HELP,
+    arguments: &[SITE, TRACE],
+};
+
+/// The command `audit`.
+fn audit_command<'a>(alloc: Global) -> Result<Command<'a>, AllocError> {
+    command(alloc, &AUDIT)
 }
 
-/// `--all` of `rewind`.
-fn each_argument<'a>(alloc: Global) -> Result<Arg<'a>, AllocError> {
-    Arg::new(alloc, "all")
-        .long("all")
-        .action(ArgAction::SetTrue)
-        .help("Prints a line for each undone attempt, also of two controllers")
-        .conflicts_with("LINE")
+/// `summary TRACE [--json]`
+const SUMMARY: CommandRow = CommandRow {
+    name: "summary",
+    about: "Prints how many calls, attempts, messages and faults a trace has, by cell",
+    after_help: SUMMARY_HELP,
+    arguments: &[
+        ArgumentRow {
+            name: "TRACE",
+            form: Form::Placed(TEXT),
+            help: "The trace, as run prints it",
+            rules: &[Rule::Required],
+        },
+        ArgumentRow {
+            name: "json",
+            form: Form::Flag("json"),
+            help: "Prints the summary as one JSON object",
+            rules: &[],
+        },
+    ],
+};
+
+/// The command `summary`.
+fn summary_command<'a>(alloc: Global) -> Result<Command<'a>, AllocError> {
+    command(alloc, &SUMMARY)
+}
+
+/// `decode LINK HEX`, `decode LINK --from FILE` or `decode --from FILE`
+const DECODE: CommandRow = CommandRow {
+    name: "decode",
+    about: "Prints a message in words, as in: decode abis 082e010b",
+    after_help: DECODE_HELP,
+    arguments: &[
+        ArgumentRow {
+            name: "LINK",
+            form: Form::Placed(LINKS),
+            help: "Where the message comes from",
+            rules: &[Rule::Unless("from")],
+        },
+        ArgumentRow {
+            name: "HEX",
+            form: Form::Placed(TEXT),
+            help: "The message's octets in hexadecimal, without blanks",
+            rules: &[
+                Rule::Unless("from"),
+                Rule::Excludes("from"),
+                Rule::Excludes("all"),
+            ],
+        },
+        ArgumentRow {
+            name: "from",
+            form: Form::Valued("from", "FILE", TEXT),
+            help: "A file with a message a line, or - for standard input",
+            rules: &[],
+        },
+        ArgumentRow {
+            name: "all",
+            form: Form::Flag("all"),
+            help: "Says what each message doesn't use, too, and on abis the rr message inside",
+            rules: &[Rule::Wants("from")],
+        },
+    ],
+};
+
+/// The command `decode`.
+fn decode_command<'a>(alloc: Global) -> Result<Command<'a>, AllocError> {
+    command(alloc, &DECODE)
+}
+
+/// `encode LINK TEXT`
+const ENCODE: CommandRow = CommandRow {
+    name: "encode",
+    about: "Prints a message in octets, as in: encode abis \"RF CHANNEL RELEASE tn=3\"",
+    after_help: ENCODE_HELP,
+    arguments: &[
+        ArgumentRow {
+            name: "LINK",
+            form: Form::Placed(LINKS),
+            help: "Where the message is for",
+            rules: &[Rule::Required],
+        },
+        ArgumentRow {
+            name: "TEXT",
+            form: Form::Placed(TEXT),
+            help: "The message's name and its fields, as decode prints them: the fields in any order",
+            rules: &[Rule::Required],
+        },
+    ],
+};
+
+/// The command `encode`.
+fn encode_command<'a>(alloc: Global) -> Result<Command<'a>, AllocError> {
+    command(alloc, &ENCODE)
+}
+
+/// The job of `encode`.
+fn encode_job<'a>(encode: &ArgMatches<'a>) -> Option<Job<'a>> {
+    Some(Job::Encode {
+        link: link(encode.get_str("LINK")?)?,
+        text: encode.get_str("TEXT")?,
+    })
+}
+
+/// The commands.
+#[derive(Clone, Copy)]
+enum CommandName {
+    Run,
+    Live,
+    Test,
+    Record,
+    Rewind,
+    Audit,
+    Summary,
+    Storm,
+    Check,
+    Decode,
+    Encode,
+    Explain,
+}
+
+/// The commands, in the order of the help.
+const COMMANDS: &[CommandName] = &[
+    CommandName::Run,
+    CommandName::Live,
+    CommandName::Test,
+    CommandName::Record,
+    CommandName::Rewind,
+    CommandName::Audit,
+    CommandName::Summary,
+    CommandName::Storm,
+    CommandName::Check,
+    CommandName::Decode,
+    CommandName::Encode,
+    CommandName::Explain,
+];
+
+/// The command of this name.
+fn named_command<'a>(alloc: Global, name: CommandName) -> Result<Command<'a>, AllocError> {
+    match name {
+        CommandName::Run => run_command(alloc),
+        CommandName::Live => live_command(alloc),
+        CommandName::Test => test_command(alloc),
+        CommandName::Record => record_command(alloc),
+        CommandName::Rewind => rewind_command(alloc),
+        CommandName::Audit => audit_command(alloc),
+        CommandName::Summary => summary_command(alloc),
+        CommandName::Storm => storm_command(alloc),
+        CommandName::Check => check_command(alloc),
+        CommandName::Decode => decode_command(alloc),
+        CommandName::Encode => encode_command(alloc),
+        CommandName::Explain => explain_command(alloc),
+    }
+}
+
+/// The command line without its commands.
+fn bare_command<'a>(alloc: Global) -> Result<Command<'a>, AllocError> {
+    let command = Command::new(alloc, "bsc_lab")
+        .version("0.1")
+        .about("A laboratory of a GSM base station controller")
+        .no_binary_name(true)
+        .subcommand_required(true);
+    command.bin_name("bsc_lab")
+}
+
+/// The whole command line.
+pub(crate) fn lab_command<'a>(alloc: Global) -> Result<Command<'a>, AllocError> {
+    let mut command = bare_command(alloc)?;
+    for name in COMMANDS {
+        command = with(command, named_command(alloc, *name))?;
+    }
+    Ok(command)
 }
 
 /// What the words of `rewind` ask for.
@@ -238,181 +446,6 @@ fn rewind_job<'a>(rewind: &ArgMatches<'a>) -> Option<Job<'a>> {
         trace: rewind.get_str("TRACE")?,
         line: rewind.get_one::<usize>("LINE")?,
     })
-}
-
-/// `audit SITE TRACE`
-fn audit_command<'a>(alloc: Global) -> Result<Command<'a>, AllocError> {
-    Command::new(alloc, "audit")
-        .about("Takes all undone attempts at handover out of a trace, and compares what is left")
-        .after_help(AUDIT_HELP)
-        .arg(argument(alloc, "SITE", "The site file"))?
-        .arg(trace_argument(alloc))
-}
-
-/// `summary TRACE [--json]`
-fn summary_command<'a>(alloc: Global) -> Result<Command<'a>, AllocError> {
-    Command::new(alloc, "summary")
-        .about("Prints how many calls, attempts, messages and faults a trace has, by cell")
-        .after_help(SUMMARY_HELP)
-        .arg(argument(alloc, "TRACE", "The trace, as run prints it"))?
-        .arg(json_argument(alloc))
-}
-
-/// `TRACE`
-fn trace_argument<'a>(alloc: Global) -> Arg<'a> {
-    argument(
-        alloc,
-        "TRACE",
-        "The trace, as run prints it from the empty book on",
-    )
-}
-
-/// `LINE`
-fn line_argument<'a>(alloc: Global) -> Result<Arg<'a>, AllocError> {
-    let argument = Arg::new(alloc, "LINE")
-        .action(ArgAction::Set)
-        .help("The line in which the attempt opens (event take or event require), counted from 1")
-        .value_parser(value_parser!(usize).range(1..));
-    argument.required_unless_present("all")
-}
-
-/// `decode LINK HEX`, `decode LINK --from FILE` or `decode --from FILE`
-fn decode_command<'a>(alloc: Global) -> Result<Command<'a>, AllocError> {
-    let command = Command::new(alloc, "decode")
-        .about("Prints a message in words, as in: decode abis 082e010b")
-        .after_help(DECODE_HELP);
-    with_lines(alloc, with_message(alloc, command)?)
-}
-
-/// The arguments of `decode` of one message.
-fn with_message<'a>(alloc: Global, command: Command<'a>) -> Result<Command<'a>, AllocError> {
-    let command = with_argument(command, link_argument(alloc))?;
-    with_argument(command, hex_argument(alloc))
-}
-
-/// Those of `decode` of lines.
-fn with_lines<'a>(alloc: Global, command: Command<'a>) -> Result<Command<'a>, AllocError> {
-    let command = command.arg(from_argument(alloc))?;
-    with_argument(command, all_argument(alloc))
-}
-
-/// A command with one more argument.
-fn with_argument<'a>(
-    command: Command<'a>,
-    argument: Result<Arg<'a>, AllocError>,
-) -> Result<Command<'a>, AllocError> {
-    command.arg(argument?)
-}
-
-/// An argument that has to be given by its place, unless a file is.
-fn unless_from<'a>(alloc: Global, name: &'a str, help: &'a str) -> Result<Arg<'a>, AllocError> {
-    Arg::new(alloc, name)
-        .action(ArgAction::Set)
-        .help(help)
-        .required_unless_present("from")
-}
-
-/// `LINK`
-fn link_argument<'a>(alloc: Global) -> Result<Arg<'a>, AllocError> {
-    let argument = unless_from(alloc, "LINK", "Where the message comes from")?;
-    Ok(argument.value_parser(LINKS))
-}
-
-/// `HEX`
-fn hex_argument<'a>(alloc: Global) -> Result<Arg<'a>, AllocError> {
-    unless_from(
-        alloc,
-        "HEX",
-        "The message's octets in hexadecimal, without blanks",
-    )?
-    .conflicts_with("from")?
-    .conflicts_with("all")
-}
-
-/// `--from FILE`
-fn from_argument<'a>(alloc: Global) -> Arg<'a> {
-    Arg::new(alloc, "from")
-        .long("from")
-        .value_name("FILE")
-        .action(ArgAction::Set)
-        .help("A file with a message a line, or - for standard input")
-}
-
-/// `--all`
-fn all_argument<'a>(alloc: Global) -> Result<Arg<'a>, AllocError> {
-    Arg::new(alloc, "all")
-        .long("all")
-        .action(ArgAction::SetTrue)
-        .help("Says what each message doesn't use, too, and on abis the rr message inside")
-        .requires_arg("from")
-}
-
-/// `encode LINK TEXT`
-fn encode_command<'a>(alloc: Global) -> Result<Command<'a>, AllocError> {
-    let link = argument(alloc, "LINK", "Where the message is for").value_parser(LINKS);
-    let text = argument(
-        alloc,
-        "TEXT",
-        "The message's name and its fields, as decode prints them: the fields in any order",
-    );
-    Command::new(alloc, "encode")
-        .about("Prints a message in octets, as in: encode abis \"RF CHANNEL RELEASE tn=3\"")
-        .after_help(ENCODE_HELP)
-        .arg(link)?
-        .arg(text)
-}
-
-/// The job of `encode`.
-fn encode_job<'a>(encode: &ArgMatches<'a>) -> Option<Job<'a>> {
-    Some(Job::Encode {
-        link: link(encode.get_str("LINK")?)?,
-        text: encode.get_str("TEXT")?,
-    })
-}
-
-/// A command with one more below it. (Here alone a command waits for another: where many do in one chain, each would be
-/// dropped at each `?` behind it, which is dear to prove.)
-fn with<'a>(
-    command: Command<'a>,
-    below: Result<Command<'a>, AllocError>,
-) -> Result<Command<'a>, AllocError> {
-    command.subcommand(below?)
-}
-
-/// The command line without its commands.
-fn bare_command<'a>(alloc: Global) -> Result<Command<'a>, AllocError> {
-    let command = Command::new(alloc, "bsc_lab")
-        .version("0.1")
-        .about("A laboratory of a GSM base station controller")
-        .no_binary_name(true)
-        .subcommand_required(true);
-    command.bin_name("bsc_lab")
-}
-
-/// The commands of scripts and of their traces.
-fn with_scripts<'a>(alloc: Global, command: Command<'a>) -> Result<Command<'a>, AllocError> {
-    let command = with(command, run_command(alloc))?;
-    let command = with(command, live_command(alloc))?;
-    let command = with(command, test_command(alloc))?;
-    let command = with(command, record_command(alloc))?;
-    let command = with(command, rewind_command(alloc))?;
-    let command = with(command, audit_command(alloc))?;
-    with(command, summary_command(alloc))
-}
-
-/// The commands of sites, storms, messages and numbers.
-fn with_texts<'a>(alloc: Global, command: Command<'a>) -> Result<Command<'a>, AllocError> {
-    let command = with(command, storm_command(alloc))?;
-    let command = with(command, check_command(alloc))?;
-    let command = with(command, decode_command(alloc))?;
-    let command = with(command, encode_command(alloc))?;
-    with(command, explain_command(alloc))
-}
-
-/// The whole command line.
-pub(crate) fn lab_command<'a>(alloc: Global) -> Result<Command<'a>, AllocError> {
-    let command = with_scripts(alloc, bare_command(alloc)?)?;
-    with_texts(alloc, command)
 }
 
 /// The job of `decode`.
@@ -438,45 +471,85 @@ fn decode_job<'a>(decode: &ArgMatches<'a>) -> Option<Job<'a>> {
     }
 }
 
+/// The job of `run`.
+fn run_job<'a>(run: &ArgMatches<'a>) -> Option<Job<'a>> {
+    Some(Job::Run {
+        sites: site_paths(run)?,
+        script: run.get_str("SCRIPT")?,
+        views: views_of(run),
+        ending: ending_of(run),
+    })
+}
+
+/// The job of `live`.
+fn live_job<'a>(live: &ArgMatches<'a>) -> Option<Job<'a>> {
+    Some(Job::Live {
+        site: live.get_str("SITE")?,
+        views: live_views_of(live),
+        entries: entries_of(live),
+        journal: journal_of(live),
+    })
+}
+
+/// The job of `record`.
+fn record_job<'a>(record: &ArgMatches<'a>) -> Option<Job<'a>> {
+    Some(Job::Record {
+        sites: site_paths(record)?,
+        script: record.get_str("SCRIPT")?,
+        recording: recording_of(record),
+    })
+}
+
+/// The job of `audit`.
+fn audit_job<'a>(audit: &ArgMatches<'a>) -> Option<Job<'a>> {
+    Some(Job::Audit {
+        site: audit.get_str("SITE")?,
+        trace: audit.get_str("TRACE")?,
+    })
+}
+
+/// The job of `summary`.
+fn summary_job<'a>(summary: &ArgMatches<'a>) -> Option<Job<'a>> {
+    Some(Job::Summary {
+        trace: summary.get_str("TRACE")?,
+        form: form_of(summary),
+    })
+}
+
+/// The job of `storm`.
+fn storm_job<'a>(storm: &ArgMatches<'a>) -> Option<Job<'a>> {
+    Some(Job::Storm {
+        site: storm.get_str("SITE")?,
+        size: storm_size(storm)?,
+    })
+}
+
+/// The job of `check`.
+fn check_job<'a>(check: &ArgMatches<'a>) -> Option<Job<'a>> {
+    Some(Job::Check {
+        site: check.get_str("SITE")?,
+    })
+}
+
+/// The job of `explain`.
+fn explain_job<'a>(explain: &ArgMatches<'a>) -> Option<Job<'a>> {
+    Some(Job::Explain(question_of(explain)?))
+}
+
 /// The job of a command line that was read.
 fn job_of<'a>(matches: &ArgMatches<'a>) -> Option<Job<'a>> {
     match matches.subcommand()? {
-        ("run", run) => Some(Job::Run {
-            sites: site_paths(run)?,
-            script: run.get_str("SCRIPT")?,
-            views: views_of(run),
-            ending: ending_of(run),
-        }),
-        ("live", live) => Some(Job::Live {
-            site: live.get_str("SITE")?,
-            views: live_views_of(live),
-            entries: entries_of(live),
-            journal: journal_of(live),
-        }),
-        ("record", record) => Some(Job::Record {
-            sites: site_paths(record)?,
-            script: record.get_str("SCRIPT")?,
-            recording: recording_of(record),
-        }),
+        ("run", run) => run_job(run),
+        ("live", live) => live_job(live),
+        ("record", record) => record_job(record),
         ("rewind", rewind) => rewind_job(rewind),
-        ("audit", audit) => Some(Job::Audit {
-            site: audit.get_str("SITE")?,
-            trace: audit.get_str("TRACE")?,
-        }),
-        ("summary", summary) => Some(Job::Summary {
-            trace: summary.get_str("TRACE")?,
-            form: form_of(summary),
-        }),
-        ("storm", storm) => Some(Job::Storm {
-            site: storm.get_str("SITE")?,
-            size: storm_size(storm)?,
-        }),
-        ("check", check) => Some(Job::Check {
-            site: check.get_str("SITE")?,
-        }),
+        ("audit", audit) => audit_job(audit),
+        ("summary", summary) => summary_job(summary),
+        ("storm", storm) => storm_job(storm),
+        ("check", check) => check_job(check),
         ("decode", decode) => decode_job(decode),
         ("encode", encode) => encode_job(encode),
-        ("explain", explain) => Some(Job::Explain(question_of(explain)?)),
+        ("explain", explain) => explain_job(explain),
         _ => None,
     }
 }

@@ -38,38 +38,36 @@ fn is_shown(scope: Scope, is_message: bool, count: u64) -> bool {
     }
 }
 
-/// The figures but those of messages.
-fn write_figures<A: Allocator, W: fmt::Write>(
-    f: &mut fmt::Formatter<W>,
-    head: Head,
-    summary: &Summary<A>,
-) -> fmt::Result {
-    for (what, words) in FIGURES {
-        let count = figure(summary, head.scope, *what);
-        if is_shown(head.scope, false, count) {
-            writeln!(f, "{head} {count:>7} {words}")?;
-        }
+/// Which way a message went that is counted; nothing where what is counted is no message.
+fn direction_of(what: What) -> Option<&'static str> {
+    match what {
+        What::Received(_) => Some("in "),
+        What::Sent(_) => Some("out "),
+        What::Opened
+        | What::Cleared
+        | What::Began(_)
+        | What::Completed
+        | What::Undone(_)
+        | What::TurnedAway
+        | What::Fault => None,
     }
-    Ok(())
 }
 
-/// How often the message at a place among the names came and was sent.
-fn write_message<A: Allocator, W: fmt::Write>(
+/// A figure, where it is shown.
+fn write_figure<A: Allocator, W: fmt::Write>(
     f: &mut fmt::Formatter<W>,
     head: Head,
     summary: &Summary<A>,
-    place: usize,
-    name: &str,
+    what: What,
+    words: &str,
 ) -> fmt::Result {
-    let received = figure(summary, head.scope, What::Received(place));
-    if is_shown(head.scope, true, received) {
-        writeln!(f, "{head} {received:>7} in {name}")?;
+    let direction = direction_of(what);
+    let count = figure(summary, head.scope, what);
+    if !is_shown(head.scope, direction.is_some(), count) {
+        return Ok(());
     }
-    let sent = figure(summary, head.scope, What::Sent(place));
-    if is_shown(head.scope, true, sent) {
-        writeln!(f, "{head} {sent:>7} out {name}")?;
-    }
-    Ok(())
+    let direction = direction.unwrap_or("");
+    writeln!(f, "{head} {count:>7} {direction}{words}")
 }
 
 /// All figures of a scope.
@@ -79,9 +77,12 @@ fn write_scope<A: Allocator, W: fmt::Write>(
     summary: &Summary<A>,
     names: &[String<A>],
 ) -> fmt::Result {
-    write_figures(f, head, summary)?;
+    for (what, words) in FIGURES {
+        write_figure(f, head, summary, *what, *words)?;
+    }
     for (place, name) in names.iter().enumerate() {
-        write_message(f, head, summary, place, name.as_str())?;
+        write_figure(f, head, summary, What::Received(place), name)?;
+        write_figure(f, head, summary, What::Sent(place), name)?;
     }
     Ok(())
 }

@@ -65,6 +65,12 @@ pub(crate) struct Lanes {
     peer: Stations,
 }
 
+/// Whose lanes stand behind those of the stations of one controller.
+const OTHERS_OF_ONE: &[&str] = &["controller", "switching centre"];
+
+/// Whose lanes stand between those of the stations of two.
+const OTHERS_OF_TWO: &[&str] = &["controller 1", "switching centre", "controller 2"];
+
 /// Adds the names of stations.
 fn push_stations<A: Allocator + Copy>(
     alloc: A,
@@ -120,18 +126,18 @@ impl Lanes {
         &self,
         alloc: A,
     ) -> Result<Vec<String<A>, A>, AllocError> {
-        let mut names = Vec::new(alloc);
-        if self.has_peer {
-            push_stations(alloc, &self.first, " of 1", &mut names)?;
-            names.push(String::from_str(alloc, "controller 1")?)?;
-            names.push(String::from_str(alloc, "switching centre")?)?;
-            names.push(String::from_str(alloc, "controller 2")?)?;
-            push_stations(alloc, &self.peer, " of 2", &mut names)?;
+        let (of_first, others) = if self.has_peer {
+            (" of 1", OTHERS_OF_TWO)
         } else {
-            push_stations(alloc, &self.first, "", &mut names)?;
-            names.push(String::from_str(alloc, "controller")?)?;
-            names.push(String::from_str(alloc, "switching centre")?)?;
+            ("", OTHERS_OF_ONE)
+        };
+        let mut names = Vec::new(alloc);
+        push_stations(alloc, &self.first, of_first, &mut names)?;
+        for other in others {
+            names.push(String::from_str(alloc, *other)?)?;
         }
+        // without a peer there is no station of its
+        push_stations(alloc, &self.peer, " of 2", &mut names)?;
         Ok(names)
     }
 }

@@ -2,13 +2,9 @@
 //! whoever reads it.
 #![tactic(auto)]
 
-mod faulty;
 pub mod reports;
 
 use channel_fsm::{ChanId, Sub};
-pub use faulty::{
-    FAULTY_CELLS, FAULTY_HANDOVER, FAULTY_OUTSIDE, FAULTY_TOGETHER, FAULTY_TRX, Faulty,
-};
 use std::alloc::{AllocError, Global};
 use std::fmt::Write;
 

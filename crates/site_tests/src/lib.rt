@@ -1,5 +1,5 @@
-//! Tests of the public surface of `cell_table`, `site_text`, `measurements` and `ho_candidates`, which are proved once and
-//! not again with them.
+//! Tests of the public surface of `cell_table`, `measurements` and `ho_candidates`, which are proved once and not again with
+//! them.
 #![tactic(auto)]
 
 #[cfg(test)]

@@ -1,21 +1,18 @@
-//! What no clause says of a site file and of what is reported in its cells: that a file can be read, what is printed of it
-//! and of its faults, and a few sites, reports and sums that were worked out by hand.
+//! What no clause says of a site file and of what is reported in its cells: that a file can be read, what is printed of its
+//! faults, and a few sites, reports and sums that were worked out by hand.
 ghost use Rattle.std.specs.Prelude.{◌≡◌};
 
 mod candidates;
 mod lookups;
-mod printed;
 mod refusals;
 mod windows;
 
-use cell_table::{Site, SiteFault};
 use measurements::Window;
 use sample_sites::THREE_CHANNELS as SITE;
 use sample_sites::reports::{Said, report};
 use std::alloc::{AllocError, Allocator, Global};
 use std::fmt::Debug;
 use std::process::Abort;
-use std::test::Fail;
 
 // Each test asserts by these: an assertion in a function of its own is proved once, and a call of it costs little.
 
@@ -42,11 +39,6 @@ fn holds_at<W: Copy + Debug>(rt: &impl Abort, is_so: bool, at: W) {
 /// The site file with the first place of a text replaced.
 fn changed(rt: &impl Abort, alloc: Global, old: &str, new: &str) -> Result<String, AllocError> {
     Ok(sample_sites::changed(alloc, SITE, old, new)?.expect(rt, old))
-}
-
-/// How a text is read: nothing where it describes a site.
-fn fault_of(alloc: Global, text: &str) -> Option<SiteFault> {
-    Site::read(alloc, alloc, text).err()
 }
 
 /// Gives a window these reports.

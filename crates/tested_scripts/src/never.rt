@@ -43,21 +43,22 @@ pub enum Never<'a> {
 
 impl fmt::Display for Never<'_> {
     fn fmt<W: fmt::Write>(&self, f: &mut fmt::Formatter<W>) -> fmt::Result {
-        match self {
-            Never::Marked => write!(f, "no such controller: one alone has no mark"),
-            Never::Beginning => write!(f, "no line of a trace begins so"),
-            Never::Capitals => write!(f, "a trace has octets in small letters"),
-            Never::Message(fault) => write!(f, "{fault}"),
-            Never::Unsent(name) => write!(f, "controllers send no \"{name}\""),
-            Never::Glued => write!(f, "a blank stands behind ;"),
-            Never::Nothing => write!(f, "nothing stands behind ;"),
-            Never::Behind => write!(f, "such a message has nothing like it behind it"),
-            Never::Ignored => write!(f, "what is ignored is said by --words alone"),
-            Never::First => write!(f, "no line stands before it"),
-            Never::Silent => write!(f, "nothing ever comes of the line before it"),
-            Never::End => write!(f, "the trace's end comes behind the last line alone"),
-            Never::NoSimulators => write!(f, "no line sim stands before it"),
-        }
+        let why = match self {
+            Never::Marked => "no such controller: one alone has no mark",
+            Never::Beginning => "no line of a trace begins so",
+            Never::Capitals => "a trace has octets in small letters",
+            Never::Message(fault) => return write!(f, "{fault}"),
+            Never::Unsent(name) => return write!(f, "controllers send no \"{name}\""),
+            Never::Glued => "a blank stands behind ;",
+            Never::Nothing => "nothing stands behind ;",
+            Never::Behind => "such a message has nothing like it behind it",
+            Never::Ignored => "what is ignored is said by --words alone",
+            Never::First => "no line stands before it",
+            Never::Silent => "nothing ever comes of the line before it",
+            Never::End => "the trace's end comes behind the last line alone",
+            Never::NoSimulators => "no line sim stands before it",
+        };
+        f.write_str(why)
     }
 }
 

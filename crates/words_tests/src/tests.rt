@@ -1,9 +1,16 @@
-//! What no clause says of words: refused memory, writes and reads that fail, small pieces, and printed texts that no command
-//! line in `tests/commands` shows.
+//! What no clause says of words, scripts, charts and captures: refused memory, writes and reads that fail, small pieces, and
+//! printed texts that no command line in `tests/commands` shows.
+mod drawn;
 mod encoded;
+mod expected;
 mod files;
+mod keeping;
 mod lines;
 mod octets;
+mod packets;
+mod reasoned;
+mod said;
+mod scripts;
 
 use refusing_heap::RefusingHeap;
 use std::alloc::Global;

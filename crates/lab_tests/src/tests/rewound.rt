@@ -1,4 +1,5 @@
-use super::{SITE, ends_so, holds_at, is_whole_or_cut};
+//! An undone attempt is taken out, unless memory is refused. What is printed of others `rewind.t` of `tests/commands` shows.
+use super::{SITE, holds_at, is_whole_or_cut};
 use lab::LabFault;
 use lab::rewound::rewind_run;
 use lab::run::Status;
@@ -33,24 +34,6 @@ fn printed<A: Allocator + Copy>(
     let mut out = Vec::new(scratch);
     let status = rewind_run(alloc, scratch, SITE, UNDONE, line, &mut out);
     Ok((status, String::from_utf8(out)?))
-}
-
-/// The taking out of the attempt of a line ends so, and prints this.
-fn is_rewound(
-    rt: &(impl AllocGlobal + Abort),
-    line: usize,
-    wanted: (Status, &str),
-) -> Result<(), Fail> {
-    let (status, text) = printed(rt.alloc(), rt.alloc(), line)?;
-    ends_so(rt, (status, text.as_str()), wanted, "line");
-    Ok(())
-}
-
-#[test]
-fn an_undone_attempt_is_taken_out(rt: HostRuntime) -> Result<(), Fail> {
-    is_rewound(&rt, 6, (Status::Done, TAKEN_OUT))?;
-    // no words of a command line name this line
-    is_rewound(&rt, 0, (Status::Refused, "no attempt\n"))
 }
 
 /// Whether a run over a heap that refuses this request met no refusal. A list is asked for in smaller pieces where a

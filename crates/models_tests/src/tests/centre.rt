@@ -1,6 +1,6 @@
-//! A simulated switching centre: how a course is played in it, and that it answers where memory is refused. All octets are
-//! worked out by hand from TS 48.008 clause 3.2.
-use super::holds_at;
+//! A simulated switching centre: what comes of each course, also where memory is refused. All octets are worked out by hand
+//! from TS 48.008 clause 3.2.
+use super::{holds_at, moves};
 use cell_table::Site;
 use msc_model::{Centre, CentreOut};
 use refusing_heap::RefusingHeap;
@@ -24,6 +24,14 @@ pub(super) type Out = (usize, u16, &'static [u8]);
 
 /// What is done, and all that comes of it.
 pub(super) type Row = (Ask, &'static [Out]);
+
+/// What is played in a new centre between so many controllers, and how many requests for memory it takes at least: one for
+/// each message that comes.
+pub(super) struct Course {
+    pub(super) controllers: usize,
+    pub(super) rows: &'static [Row],
+    pub(super) least: u64,
+}
 
 /// The site of the third: cells 200 and 102 in location area 24.
 const FAR: &str = "[handover]
@@ -141,31 +149,6 @@ fn hold_outs<A: Allocator + Copy>(
     }
 }
 
-/// Plays one row.
-fn play_row<A: Allocator + Copy>(rt: &impl Abort, centre: &mut Centre<A>, row: &Row) {
-    let (asked, wanted) = *row;
-    let outs = put(centre, asked).expect(rt, "memory");
-    hold_outs(rt, asked, outs.as_slice(), wanted);
-}
-
-fn play_rows<A: Allocator + Copy>(rt: &impl Abort, centre: &mut Centre<A>, course: &[Row]) {
-    for row in course {
-        play_row(rt, centre, row);
-    }
-}
-
-/// Plays a course in a new centre between so many controllers.
-pub(super) fn play<R: Abort + AllocGlobal>(
-    rt: &R,
-    controllers: usize,
-    course: &[Row],
-) -> Result<(), Fail> {
-    let sites = sites_of(rt.alloc(), rt.alloc(), controllers)?;
-    let mut centre = Centre::new(rt.alloc(), sites.as_slice()).expect(rt, "memory");
-    play_rows(rt, &mut centre, course);
-    Ok(())
-}
-
 // Each answer of the centre, and messages that take no memory.
 const COURSE: &[Row] = &[
     (Send(0, 1, REQUIRED_102), &[(1, 40000, REQUEST_102)]),
@@ -189,98 +172,89 @@ const COURSE: &[Row] = &[
     (Send(0, 2, b"\x00\x03\x22\x04\x00"), &[]),
 ];
 
-// Asks one row: the answer is an allocation failure exactly where memory was refused. Asked again, the centre, which is as
-// it was, gives what the row says.
+/// All courses.
+const COURSES: &[Course] = &[
+    // each of the thirteen messages takes some, and so do joins, the calls that have stood in one, and the list of cells
+    Course {
+        controllers: 2,
+        rows: COURSE,
+        least: 29,
+    },
+    moves::MOVED,
+    moves::TO_FIRST_CELLS,
+    moves::TO_A_THIRD,
+    moves::BETWEEN_ONE,
+    moves::BETWEEN_NONE,
+];
+
+/// Asks one row: the answer is an allocation failure exactly where memory was refused. Asked again, the centre, which is as
+/// it was, gives what the row says.
 fn asks(rt: &impl Abort, heap: &RefusingHeap, centre: &mut Centre<&RefusingHeap>, row: &Row) {
-    let refused = heap.refused();
-    let is_answered = is_put(rt, centre, row);
-    holds_at(rt, is_answered == (heap.refused() == refused), row.0);
-    if !is_answered {
-        play_row(rt, centre, row);
-    }
-}
-
-// Whether a row's answer isn't an allocation failure; then it is what the row says.
-fn is_put(rt: &impl Abort, centre: &mut Centre<&RefusingHeap>, row: &Row) -> bool {
     let (asked, wanted) = *row;
-    match put(centre, asked) {
-        Ok(outs) => {
-            hold_outs(rt, asked, outs.as_slice(), wanted);
-            true
+    let before = heap.refused();
+    let mut answer = put(centre, asked);
+    let is_refused = before < heap.refused();
+    holds_at(rt, answer.is_err() == is_refused, asked);
+    if is_refused {
+        answer = put(centre, asked);
+    }
+    let outs = answer.expect(rt, "memory");
+    hold_outs(rt, asked, outs.as_slice(), wanted);
+}
+
+/// Asks all rows in a new centre, unless that is refused its memory.
+fn asks_all(
+    rt: &impl Abort,
+    heap: &RefusingHeap,
+    made: Result<Centre<&RefusingHeap>, AllocError>,
+    course: &Course,
+) {
+    holds_at(rt, made.is_err() == heap.was_refused(), course.least);
+    if let Ok(mut centre) = made {
+        for row in course.rows {
+            asks(rt, heap, &mut centre, row);
         }
-        Err(_) => false,
     }
 }
 
-fn asks_all(rt: &impl Abort, heap: &RefusingHeap, centre: &mut Centre<&RefusingHeap>) {
-    for row in COURSE {
-        asks(rt, heap, centre, row);
-    }
-}
-
-// Plays the course in a centre whose heap refuses the n-th request after those that make the centre. Whether there was one.
-fn meets_refusal(rt: &(impl AllocGlobal + Abort), made: u64, n: u64) -> Result<bool, Fail> {
-    let heap = RefusingHeap::refusing_nth(rt.alloc(), made.saturating_add(n));
-    let sites = sites_of(&heap, rt.alloc(), 2)?;
-    let mut centre = Centre::new(&heap, sites.as_slice()).expect(rt, "memory");
-    asks_all(rt, &heap, &mut centre);
-    Ok(heap.was_refused())
-}
-
-// How many requests make a centre.
-fn requests_of_a_centre(rt: &(impl AllocGlobal + Abort)) -> Result<u64, Fail> {
-    let heap = RefusingHeap::ample(rt.alloc());
-    let sites = sites_of(&heap, rt.alloc(), 2)?;
-    let _centre = Centre::new(&heap, sites.as_slice()).expect(rt, "memory");
-    Ok(heap.requests())
-}
-
-#[test]
-fn a_refused_request_changes_nothing(rt: HostRuntime) -> Result<(), Fail> {
-    let made = requests_of_a_centre(&rt)?;
-    let mut refused = 0u64;
-    for n in 1..200 {
-        if !meets_refusal(&rt, made, n)? {
-            break;
-        }
-        refused = n;
-    }
-    // Each of the thirteen messages that are sent takes some, and so do joins and the calls that have stood in one.
-    holds_at(&rt, 28 <= refused && refused < 199, refused);
-    Ok(())
-}
-
-// How many requests make the sites.
-fn requests_of_sites(rt: &impl AllocGlobal) -> Result<u64, Fail> {
-    let heap = RefusingHeap::ample(rt.alloc());
-    let _sites = sites_of(&heap, rt.alloc(), 2)?;
-    Ok(heap.requests())
-}
-
-// Makes a centre with a heap that refuses the n-th request after those of the sites. Whether there was one.
-fn meets_refusal_when_made(
+/// Plays a course with a heap that refuses the n-th request behind those that make the sites. Whether there was one.
+fn meets_refusal(
     rt: &(impl AllocGlobal + Abort),
+    course: &Course,
     made: u64,
     n: u64,
 ) -> Result<bool, Fail> {
     let heap = RefusingHeap::refusing_nth(rt.alloc(), made.saturating_add(n));
-    let sites = sites_of(&heap, rt.alloc(), 2)?;
-    let is_made = Centre::new(&heap, sites.as_slice()).is_ok();
-    holds_at(rt, is_made != heap.was_refused(), n);
-    Ok(!is_made)
+    let sites = sites_of(&heap, rt.alloc(), course.controllers)?;
+    asks_all(rt, &heap, Centre::new(&heap, sites.as_slice()), course);
+    Ok(heap.was_refused())
 }
 
-#[test]
-fn a_centre_is_made_unless_memory_is_refused(rt: HostRuntime) -> Result<(), Fail> {
-    let made = requests_of_sites(&rt)?;
+/// How many requests make so many sites.
+fn requests_of_sites(rt: &impl AllocGlobal, controllers: usize) -> Result<u64, Fail> {
+    let heap = RefusingHeap::ample(rt.alloc());
+    let _sites = sites_of(&heap, rt.alloc(), controllers)?;
+    Ok(heap.requests())
+}
+
+/// Each request of a course is refused in turn, until one meets no refusal.
+fn meets_each_refusal(rt: &(impl AllocGlobal + Abort), course: &Course) -> Result<(), Fail> {
+    let made = requests_of_sites(rt, course.controllers)?;
     let mut refused = 0u64;
-    for n in 1..100 {
-        if !meets_refusal_when_made(&rt, made, n)? {
+    for n in 1..200 {
+        if !meets_refusal(rt, course, made, n)? {
             break;
         }
         refused = n;
     }
-    // The list of cells.
-    holds_at(&rt, 1 <= refused && refused < 99, refused);
+    holds_at(rt, course.least <= refused && refused < 199, refused);
+    Ok(())
+}
+
+#[test]
+fn each_row_comes_also_behind_a_refusal_of_memory(rt: HostRuntime) -> Result<(), Fail> {
+    for course in COURSES {
+        meets_each_refusal(&rt, course)?;
+    }
     Ok(())
 }

@@ -1,13 +1,12 @@
 //! Courses through a simulated world: what is sent or set, and what comes back.
 use super::stations::Ask::{Send, Set};
 use super::stations::{
-    ACK, ACK_2, ACTIVATE, ACTIVATE_2, ACTIVATE_42, COMMAND, COMPLETE, DETECTION, FAILURE, NACK,
-    Out, RELEASE, RELEASED, Row, play,
+    ACK, ACK_2, ACTIVATE, ACTIVATE_2, ACTIVATE_42, COMMAND, COMPLETE, Course, DETECTION, FAILURE,
+    NACK, Out, RELEASE, RELEASED, Row,
 };
 use bts_model::{Act, Habit, Held};
 use channel_fsm::ChanId;
 use sample_sites::{HOME, TARGET};
-use std::test::Fail;
 
 const ACTIVATIONS: &[Row] = &[
     // at first each channel is inactive, and its release is acknowledged
@@ -56,11 +55,19 @@ const ACTIVATIONS: &[Row] = &[
     ),
 ];
 
-#[test]
-fn channels_are_activated_and_released(rt: HostRuntime) -> Result<(), Fail> {
-    play(&rt, 2, ACTIVATIONS)?;
-    play(&rt, 0, &[(Send(0, 0, 0, ACTIVATE), &[])])
-}
+/// Channels are activated and released.
+pub(super) const ACTIVATED: Course = Course {
+    controllers: 2,
+    rows: ACTIVATIONS,
+    least: 12,
+};
+
+/// A world without controllers.
+pub(super) const OF_NOBODY: Course = Course {
+    controllers: 0,
+    rows: &[(Send(0, 0, 0, ACTIVATE), &[])],
+    least: 0,
+};
 
 const ARRIVAL: &[Out] = &[(0, 1, 1, DETECTION), (0, 1, 1, COMPLETE)];
 
@@ -113,10 +120,12 @@ const HABITS: &[Row] = &[
     (Send(0, 0, 0, COMMAND), ARRIVAL),
 ];
 
-#[test]
-fn a_mobile_goes_by_the_habit_of_its_channel(rt: HostRuntime) -> Result<(), Fail> {
-    play(&rt, 1, HABITS)
-}
+/// A mobile goes by the habit of its channel.
+pub(super) const MOVED: Course = Course {
+    controllers: 1,
+    rows: HABITS,
+    least: 19,
+};
 
 const TWO_CONTROLLERS: &[Row] = &[
     (Send(0, 0, 0, ACTIVATE), &[(0, 0, 0, ACK)]),
@@ -132,9 +141,9 @@ const TWO_CONTROLLERS: &[Row] = &[
     (Send(1, 0, 0, COMMAND), &[(1, 0, 0, FAILURE)]),
 ];
 
-#[test]
-fn of_two_controllers_with_the_colour_the_first_has_the_mobile(
-    rt: HostRuntime,
-) -> Result<(), Fail> {
-    play(&rt, 2, TWO_CONTROLLERS)
-}
+/// Where both of two controllers have a cell of the colour, the first has the mobile.
+pub(super) const OF_TWO: Course = Course {
+    controllers: 2,
+    rows: TWO_CONTROLLERS,
+    least: 9,
+};

@@ -3,13 +3,12 @@
 //! and 13 and 1b at half rate.
 use super::stations::Ask::{Send, Set};
 use super::stations::{
-    ACK, ACK_2, ACTIVATE, ACTIVATE_2, ACTIVATE_42, COMMAND, COMPLETE, DETECTION, FAILURE, NACK,
-    Out, RELEASE, RELEASED, Row, play,
+    ACK, ACK_2, ACTIVATE, ACTIVATE_2, ACTIVATE_42, COMMAND, COMPLETE, Course, DETECTION, FAILURE,
+    NACK, Out, RELEASE, RELEASED, Row,
 };
 use bts_model::{Act, Habit, Held};
 use channel_fsm::{ChanId, Sub};
 use sample_sites::{HOME, UPPER};
-use std::test::Fail;
 
 // The lower half of the first cell's channel.
 const HALF_0: ChanId = ChanId {
@@ -71,10 +70,12 @@ const CONFLICTS: &[Row] = &[
     ),
 ];
 
-#[test]
-fn a_timeslot_is_whole_or_two_halves(rt: HostRuntime) -> Result<(), Fail> {
-    play(&rt, 2, CONFLICTS)
-}
+/// A timeslot is whole or two halves.
+pub(super) const ACTIVATED: Course = Course {
+    controllers: 2,
+    rows: CONFLICTS,
+    least: 21,
+};
 
 // The target's halves for a handover with reference 42.
 const ACTIVATE_HALF_0_42: &[u8] = b"\x08\x21\x01\x13\x03\x02\x06\x04\x00\x01\x09\x01\x09\x2a";
@@ -127,7 +128,9 @@ const MOVES: &[Row] = &[
     ),
 ];
 
-#[test]
-fn a_mobile_goes_to_the_half_that_it_is_sent_to(rt: HostRuntime) -> Result<(), Fail> {
-    play(&rt, 1, MOVES)
-}
+/// A mobile goes to the half that it is sent to.
+pub(super) const MOVED: Course = Course {
+    controllers: 1,
+    rows: MOVES,
+    least: 19,
+};

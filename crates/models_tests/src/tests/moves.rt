@@ -1,13 +1,11 @@
 //! Courses through a simulated switching centre: what controllers send, and what comes back.
 use super::centre::Ask::Send;
 use super::centre::{
-    ACK, CLEAR_0B, CLEAR_01, CLEAR_09, CLEAR_REQUEST, CLEARED, COMMAND, COMPLETE, DETECT,
+    ACK, CLEAR_0B, CLEAR_01, CLEAR_09, CLEAR_REQUEST, CLEARED, COMMAND, COMPLETE, Course, DETECT,
     FAILURE_0A, FAILURE_40, REJECT_21, REQUEST_101, REQUEST_102, REQUIRED_101, REQUIRED_102, Row,
-    play,
 };
-use std::test::Fail;
 
-const MOVED: &[Row] = &[
+const MOVES: &[Row] = &[
     // a call in no join has no other side
     (Send(0, 1, ACK), &[]),
     (Send(0, 1, CLEAR_REQUEST), &[(0, 1, CLEAR_01)]),
@@ -38,10 +36,12 @@ const MOVED: &[Row] = &[
     (Send(1, 40002, ACK), &[(0, 40000, COMMAND)]),
 ];
 
-#[test]
-fn a_call_moves_to_the_other_controller(rt: HostRuntime) -> Result<(), Fail> {
-    play(&rt, 2, MOVED)
-}
+/// A call moves to the other controller.
+pub(super) const MOVED: Course = Course {
+    controllers: 2,
+    rows: MOVES,
+    least: 10,
+};
 
 // HANDOVER REQUIRED for cells 102 and 101, of which the first counts, and for 101 and 102.
 const REQUIRED_102_101: &[u8] =
@@ -77,12 +77,28 @@ const THREE: &[Row] = &[
     (Send(0, 3, REQUIRED_CI_102), &[(1, 40000, REQUEST_102)]),
 ];
 
-#[test]
-fn the_first_cell_is_asked_for_where_the_other_controller_has_it(
-    rt: HostRuntime,
-) -> Result<(), Fail> {
-    play(&rt, 2, CELLS)?;
-    play(&rt, 3, THREE)?;
-    play(&rt, 1, &[(Send(0, 1, REQUIRED_102), &[(0, 1, REJECT_21)])])?;
-    play(&rt, 0, &[(Send(0, 1, CLEAR_REQUEST), &[(0, 1, CLEAR_01)])])
-}
+/// The first cell is asked for where the other controller has it.
+pub(super) const TO_FIRST_CELLS: Course = Course {
+    controllers: 2,
+    rows: CELLS,
+    least: 6,
+};
+
+pub(super) const TO_A_THIRD: Course = Course {
+    controllers: 3,
+    rows: THREE,
+    least: 2,
+};
+
+/// A centre that has no second controller, or none.
+pub(super) const BETWEEN_ONE: Course = Course {
+    controllers: 1,
+    rows: &[(Send(0, 1, REQUIRED_102), &[(0, 1, REJECT_21)])],
+    least: 1,
+};
+
+pub(super) const BETWEEN_NONE: Course = Course {
+    controllers: 0,
+    rows: &[(Send(0, 1, CLEAR_REQUEST), &[(0, 1, CLEAR_01)])],
+    least: 1,
+};

@@ -1,6 +1,6 @@
-//! A simulated world: how a course is played in it, and that it answers where memory is refused. All octets are worked out
-//! by hand from TS 48.058 clauses 8 and 9 and TS 44.018 clauses 9 and 10.
-use super::holds_at;
+//! A simulated world: what comes of each course, also where memory is refused. All octets are worked out by hand from
+//! TS 48.058 clauses 8 and 9 and TS 44.018 clauses 9 and 10.
+use super::{courses, halves, holds_at};
 use bts_model::{Act, Habit, Held, Setting, StationOut, World};
 use cell_table::Site;
 use channel_fsm::ChanId;
@@ -25,6 +25,14 @@ pub(super) type Out = (usize, u8, u8, &'static [u8]);
 
 /// What is done, and all that comes of it.
 pub(super) type Row = (Ask, &'static [Out]);
+
+/// What is played in a new world of so many controllers, and how many requests for memory it takes at least: one for each
+/// message that comes.
+pub(super) struct Course {
+    pub(super) controllers: usize,
+    pub(super) rows: &'static [Row],
+    pub(super) least: u64,
+}
 
 // CHANNEL ACTIVATION of timeslots 3 and 2, for an immediate assignment; and of timeslot 3 for a handover with reference 42.
 pub(super) const ACTIVATE: &[u8] = b"\x08\x21\x01\x0b\x03\x00\x06\x04\x00\x01\x08\x01";
@@ -116,31 +124,6 @@ fn hold_outs<A: Allocator + Copy>(
     }
 }
 
-/// Plays one row.
-fn play_row<A: Allocator + Copy>(rt: &impl Abort, world: &mut World<A>, row: &Row) {
-    let (asked, wanted) = *row;
-    let outs = put(world, asked).expect(rt, "memory");
-    hold_outs(rt, asked, outs.as_slice(), wanted);
-}
-
-fn play_rows<A: Allocator + Copy>(rt: &impl Abort, world: &mut World<A>, course: &[Row]) {
-    for row in course {
-        play_row(rt, world, row);
-    }
-}
-
-/// Plays a course in a new world.
-pub(super) fn play<R: Abort + AllocGlobal>(
-    rt: &R,
-    controllers: usize,
-    course: &[Row],
-) -> Result<(), Fail> {
-    let site = site_of(rt.alloc(), rt.alloc())?;
-    let mut world = world_of(rt.alloc(), &site, controllers).expect(rt, "memory");
-    play_rows(rt, &mut world, course);
-    Ok(())
-}
-
 // Each kind of answer, and each act.
 const COURSE: &[Row] = &[
     (Set(0, HOME, Act::Refuse), &[]),
@@ -179,98 +162,99 @@ const COURSE: &[Row] = &[
     ),
 ];
 
-// Asks one row: the answer is an allocation failure exactly where memory was refused. Asked again, the world, which is as
-// it was, gives what the row says.
+/// All courses.
+const COURSES: &[Course] = &[
+    // each message takes some, and so do what is known of three channels, the holds, and the world itself
+    Course {
+        controllers: 2,
+        rows: COURSE,
+        least: 27,
+    },
+    courses::ACTIVATED,
+    courses::OF_NOBODY,
+    courses::MOVED,
+    courses::OF_TWO,
+    halves::ACTIVATED,
+    halves::MOVED,
+];
+
+/// Asks one row: the answer is an allocation failure exactly where memory was refused. Asked again, the world, which is as
+/// it was, gives what the row says.
 fn asks(rt: &impl Abort, heap: &RefusingHeap, world: &mut World<&RefusingHeap>, row: &Row) {
-    let refused = heap.refused();
-    let is_answered = is_put(rt, world, row);
-    holds_at(rt, is_answered == (heap.refused() == refused), row.0);
-    if !is_answered {
-        play_row(rt, world, row);
-    }
-}
-
-// Whether a row's answer isn't an allocation failure; then it is what the row says.
-fn is_put(rt: &impl Abort, world: &mut World<&RefusingHeap>, row: &Row) -> bool {
     let (asked, wanted) = *row;
-    match put(world, asked) {
-        Ok(outs) => {
-            hold_outs(rt, asked, outs.as_slice(), wanted);
-            true
+    let before = heap.refused();
+    let mut answer = put(world, asked);
+    let is_refused = before < heap.refused();
+    holds_at(rt, answer.is_err() == is_refused, asked);
+    if is_refused {
+        answer = put(world, asked);
+    }
+    let outs = answer.expect(rt, "memory");
+    hold_outs(rt, asked, outs.as_slice(), wanted);
+}
+
+/// Asks all rows in a new world, unless that is refused its memory.
+fn asks_all(
+    rt: &impl Abort,
+    heap: &RefusingHeap,
+    made: Result<World<&RefusingHeap>, AllocError>,
+    course: &Course,
+) {
+    holds_at(rt, made.is_err() == heap.was_refused(), course.least);
+    if let Ok(mut world) = made {
+        for row in course.rows {
+            asks(rt, heap, &mut world, row);
         }
-        Err(_) => false,
     }
 }
 
-fn asks_all(rt: &impl Abort, heap: &RefusingHeap, world: &mut World<&RefusingHeap>) {
-    for row in COURSE {
-        asks(rt, heap, world, row);
-    }
-}
-
-// Plays the course in a world whose heap refuses the n-th request after those that make the world. Whether there was one.
-fn meets_refusal(rt: &(impl AllocGlobal + Abort), made: u64, n: u64) -> Result<bool, Fail> {
+/// Plays a course with a heap that refuses the n-th request behind those that make the site. Whether there was one.
+fn meets_refusal(
+    rt: &(impl AllocGlobal + Abort),
+    course: &Course,
+    made: u64,
+    n: u64,
+) -> Result<bool, Fail> {
     let heap = RefusingHeap::refusing_nth(rt.alloc(), made.saturating_add(n));
     let site = site_of(&heap, rt.alloc())?;
-    let mut world = world_of(&heap, &site, 2).expect(rt, "memory");
-    asks_all(rt, &heap, &mut world);
+    asks_all(
+        rt,
+        &heap,
+        world_of(&heap, &site, course.controllers),
+        course,
+    );
     Ok(heap.was_refused())
 }
 
-// How many requests make a world.
-fn requests_of_a_world(rt: &(impl AllocGlobal + Abort)) -> Result<u64, Fail> {
-    let heap = RefusingHeap::ample(rt.alloc());
-    let site = site_of(&heap, rt.alloc())?;
-    let _world = world_of(&heap, &site, 2).expect(rt, "memory");
-    Ok(heap.requests())
-}
-
-#[test]
-fn a_refused_request_changes_nothing(rt: HostRuntime) -> Result<(), Fail> {
-    let made = requests_of_a_world(&rt)?;
+/// Each request of a course is refused in turn, until one meets no refusal.
+fn meets_each_refusal(
+    rt: &(impl AllocGlobal + Abort),
+    course: &Course,
+    made: u64,
+) -> Result<(), Fail> {
     let mut refused = 0u64;
     for n in 1..200 {
-        if !meets_refusal(&rt, made, n)? {
+        if !meets_refusal(rt, course, made, n)? {
             break;
         }
         refused = n;
     }
-    // Each message that is sent takes some, and so do what is known of three channels, and the holds.
-    holds_at(&rt, 25 <= refused && refused < 199, refused);
+    holds_at(rt, course.least <= refused && refused < 199, refused);
     Ok(())
 }
 
-// How many requests make a site.
+/// How many requests make the site.
 fn requests_of_a_site(rt: &impl AllocGlobal) -> Result<u64, Fail> {
     let heap = RefusingHeap::ample(rt.alloc());
     let _site = site_of(&heap, rt.alloc())?;
     Ok(heap.requests())
 }
 
-// Makes a world with a heap that refuses the n-th request after those of the site. Whether there was one.
-fn meets_refusal_when_made(
-    rt: &(impl AllocGlobal + Abort),
-    made: u64,
-    n: u64,
-) -> Result<bool, Fail> {
-    let heap = RefusingHeap::refusing_nth(rt.alloc(), made.saturating_add(n));
-    let site = site_of(&heap, rt.alloc())?;
-    let is_made = world_of(&heap, &site, 2).is_ok();
-    holds_at(rt, is_made != heap.was_refused(), n);
-    Ok(!is_made)
-}
-
 #[test]
-fn a_world_is_made_unless_memory_is_refused(rt: HostRuntime) -> Result<(), Fail> {
+fn each_row_comes_also_behind_a_refusal_of_memory(rt: HostRuntime) -> Result<(), Fail> {
     let made = requests_of_a_site(&rt)?;
-    let mut refused = 0u64;
-    for n in 1..100 {
-        if !meets_refusal_when_made(&rt, made, n)? {
-            break;
-        }
-        refused = n;
+    for course in COURSES {
+        meets_each_refusal(&rt, course, made)?;
     }
-    // The list of sites and the TRX.
-    holds_at(&rt, 2 <= refused && refused < 99, refused);
     Ok(())
 }

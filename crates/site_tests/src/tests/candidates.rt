@@ -154,22 +154,14 @@ fn hold_all<R: Abort + AllocGlobal>(rt: &R, text: &str, rows: &[Row]) {
 }
 
 #[test]
-fn windows_of_two_reports(rt: HostRuntime) {
-    hold_all(&rt, THREE_CHANNELS, TWO_REPORTS);
-}
-
-#[test]
-fn windows_of_one_report(rt: HostRuntime) -> Result<(), AllocError> {
+fn windows_give_their_candidates(rt: HostRuntime) -> Result<(), AllocError> {
     let two = "window = 2\nmargin = 3\nminimum = 10";
     let one = "window = 1\nmargin = 0\nminimum = 0";
     let text = changed(&rt, rt.alloc(), two, one)?;
+    hold_all(&rt, THREE_CHANNELS, TWO_REPORTS);
     hold_all(&rt, text.as_str(), ONE_REPORT);
-    Ok(())
-}
-
-#[test]
-fn windows_in_a_crowded_site(rt: HostRuntime) {
     hold_all(&rt, CROWDED, THREE_REPORTS);
+    Ok(())
 }
 
 /// How many requests were refused in turn, until the candidates were listed.

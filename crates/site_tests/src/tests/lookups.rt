@@ -1,19 +1,40 @@
-//! What a site answers.
+//! What a site answers. What it answers of other sites `check.t` of `tests/commands` shows.
 use super::{SITE, changed, equals, equals_at};
 use cell_table::Site;
 use channel_fsm::{ChanId, Sub};
-use sample_sites::{HALVED, LOWER, TARGET, UPPER};
+use sample_sites::{HALVED, HOME, LOWER, OTHER, TARGET, UPPER};
 use std::alloc::Global;
 use std::process::Abort;
 use std::test::Fail;
 
 /// Channels, and the place of each among the traffic channels.
-const CHANNELS: &[((u8, u8, u8), Option<usize>)] = &[
-    ((0, 0, 2), Some(0)),
-    ((0, 0, 3), Some(1)),
-    ((1, 1, 3), Some(2)),
-    ((1, 0, 3), None),
+type Placed = (ChanId, Option<usize>);
+
+/// A channel that the site doesn't have.
+const NONE_THERE: ChanId = ChanId {
+    cell: 1,
+    trx: 0,
+    tn: 3,
+    sub: Sub::Full,
+};
+
+const PLACES: &[Placed] = &[
+    (OTHER, Some(0)),
+    (HOME, Some(1)),
+    (TARGET, Some(2)),
+    (NONE_THERE, None),
+    (LOWER, None),
 ];
+
+/// Where a timeslot also carries halves, they come behind the whole of it.
+const PLACES_OF_HALVES: &[Placed] = &[(TARGET, Some(2)), (LOWER, Some(3)), (UPPER, Some(4))];
+
+fn have_places(rt: &impl Abort, site: &Site<Global>, places: &[Placed]) {
+    for (chan, place) in places {
+        equals_at(rt, site.index_of(*chan), *place, chan);
+        equals_at(rt, site.is_traffic(*chan), place.is_some(), chan);
+    }
+}
 
 /// Cells, and the location area code and cell identity of each, its carrier and both colour codes.
 type Identity = (
@@ -35,8 +56,8 @@ const IDENTITIES: &[Identity] = &[
 fn says_of_cells(rt: &impl Abort, site: &Site<Global>) {
     for (cell, lac, ci, bcch, ncc, bcc) in IDENTITIES {
         let cell = *cell;
-        equals_at(rt, (site.lac(cell), site.ci(cell)), (*lac, *ci), cell);
-        equals_at(rt, site.bcch(cell), *bcch, cell);
+        let (codes, carrier) = ((site.lac(cell), site.ci(cell)), site.bcch(cell));
+        equals_at(rt, (codes, carrier), ((*lac, *ci), *bcch), cell);
         equals_at(rt, (site.ncc(cell), site.bcc(cell)), (*ncc, *bcc), cell);
     }
     equals(rt, (site.power(1), site.trx(1)), (Some(5), Some(2)));
@@ -53,30 +74,16 @@ fn a_site_says_what_its_file_does(rt: HostRuntime) -> Result<(), Fail> {
     equals(&rt, (site.cells(), site.outside_cells()), (2, 1));
     says_of_cells(&rt, &site);
     equals(&rt, site.cell_of(23, 102), Some(64));
-    for ((cell, trx, tn), place) in CHANNELS {
-        let (cell, trx, tn) = (*cell, *trx, *tn);
-        let sub = Sub::Full;
-        has_place(&rt, &site, ChanId { cell, trx, tn, sub }, *place);
-    }
-    has_place(&rt, &site, LOWER, None);
-    equals(&rt, site.half(1, 1), Some([].as_slice()));
+    have_places(&rt, &site, PLACES);
     Ok(())
 }
 
-fn has_place(rt: &impl Abort, site: &Site<Global>, chan: ChanId, place: Option<usize>) {
-    equals_at(rt, site.index_of(chan), place, chan);
-    equals_at(rt, site.is_traffic(chan), place.is_some(), chan);
-}
-
-/// Where a timeslot also carries halves, they come behind the whole of it.
 #[test]
 fn halves_have_places(rt: HostRuntime) -> Result<(), Fail> {
     let (whole, halved) = HALVED;
     let text = changed(&rt, rt.alloc(), whole, halved)?;
     let site = Site::read(rt.alloc(), rt.alloc(), text.as_str())?;
-    has_place(&rt, &site, TARGET, Some(2));
-    has_place(&rt, &site, LOWER, Some(3));
-    has_place(&rt, &site, UPPER, Some(4));
+    have_places(&rt, &site, PLACES_OF_HALVES);
     equals(&rt, site.channels(), 5);
     equals(&rt, site.half(1, 1), Some([3].as_slice()));
     equals(&rt, site.traffic_mask(1, 1, Sub::Half1), 8);
@@ -99,18 +106,6 @@ const WITH_CARRIER_0: &[Named] = &[
     ((0, 0, 24), Some(64)),
     ((0, 1, 21), Some(1)),
     ((0, 2, 24), None),
-];
-
-/// The same, and an outside cell on carrier 0 before the other.
-const WITH_A_CELL_THERE: &[Named] = &[
-    ((0, 0, 24), Some(65)),
-    ((0, 1, 21), Some(1)),
-    ((0, 2, 7), Some(64)),
-    ((1, 0, 9), Some(0)),
-    // another code on the carrier, a position behind the list, a cell of another controller
-    ((0, 0, 7), None),
-    ((0, 3, 7), None),
-    ((64, 0, 24), None),
 ];
 
 fn names(rt: &impl Abort, site: &Site<Global>, rows: &[Named]) {
@@ -142,12 +137,7 @@ fn names_in(
 
 #[test]
 fn reports_name_neighbours(rt: HostRuntime) -> Result<(), Fail> {
-    let (three, other) = ("ba = [62, 70, 871]", "ba = [0, 871, 62]");
-    names_in(&rt, three, three, AS_IT_STANDS)?;
-    names_in(&rt, three, other, WITH_CARRIER_0)?;
-    let rest = "\ntrx = [{ arfcn = 60, tch = [2, 3] }]\n";
-    let there = "[[outside]]\nlac = 23\nci = 103\nbcch = 0\nncc = 0\nbcc = 7\n";
-    let old = format!(in rt.alloc(); "{three}{rest}")?;
-    let new = format!(in rt.alloc(); "{other}{rest}{there}")?;
-    names_in(&rt, old.as_str(), new.as_str(), WITH_A_CELL_THERE)
+    let list = "ba = [62, 70, 871]";
+    names_in(&rt, list, list, AS_IT_STANDS)?;
+    names_in(&rt, list, "ba = [0, 871, 62]", WITH_CARRIER_0)
 }

@@ -1,9 +1,7 @@
-//! Messages in words, and their fields, where memory is refused. What is written for each message, and why a text says none,
+//! Messages in words, where memory is refused. What is written for each message, and why a text says none,
 //! `tests/commands` shows.
-use super::{Fail, Global, RefusingHeap, equals, equals_at, holds_at};
-use encoded_messages::{
-    FieldFault, MessageFault, encode_a, encode_abis, encode_rr, octets, optional_octets,
-};
+use super::{Fail, Global, RefusingHeap, equals_at, holds_at};
+use encoded_messages::{MessageFault, encode_a, encode_abis, encode_rr};
 use std::alloc::Allocator;
 use std::process::Abort;
 
@@ -19,6 +17,7 @@ abis CHANNEL ACTIVATION tn=3 activation=2 mode=00010801 reference=42 -> 0821010b
 abis CHANNEL ACTIVATION tn=3/0 activation=2 mode=00010901 reference=0 -> 0821011303020604000109010900
 abis RF CHANNEL RELEASE tn=7/1 -> 082e011f
 abis MEASUREMENT RESULT tn=3 number=0 uplink=001e00 power=0 layer3=- -> 0828010b1b001903001e000400
+abis MEASUREMENT RESULT tn=3 number=0 uplink=001e00 power=0 layer3=062c00 -> 0828010b1b001903001e0004000b0003062c00
 ";
 
 /// The octets of a text behind its link.
@@ -63,18 +62,4 @@ fn texts_are_written_unless_memory_is_refused(rt: HostRuntime) -> Result<(), Fai
         holds_at(&rt, tried.is_some_and(|tried| tried >= 1), text);
     }
     Ok(())
-}
-
-#[test]
-fn octets_of_fields(rt: HostRuntime) {
-    let alloc = rt.alloc();
-    let found = octets(alloc, "k=0aFf", "k", 2).expect(&rt, "two octets");
-    equals(&rt, found.as_slice(), [10, 255].as_slice());
-    let one = optional_octets(alloc, "k=06", "k", 1).expect(&rt, "an octet");
-    equals(&rt, one.as_deref(), Some([6].as_slice()));
-    let heap = RefusingHeap::refusing_from(alloc, 1);
-    let refused = octets(&heap, "k=06", "k", 1).err();
-    equals(&rt, refused, Some(FieldFault::NoMemory));
-    let refused = optional_octets(&heap, "k=06", "k", 1).err();
-    equals(&rt, refused, Some(FieldFault::NoMemory));
 }

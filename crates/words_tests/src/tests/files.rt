@@ -37,11 +37,6 @@ fn errors_are_said(rt: HostRuntime) -> Result<(), Fail> {
         let said = format!(in rt.alloc(); "{}", Reason(&error))?;
         equals(&rt, said.as_str(), *words);
     }
-    Ok(())
-}
-
-#[test]
-fn each_kind_is_said(rt: HostRuntime) -> Result<(), Fail> {
     for (kind, words) in SAID_OF_KINDS {
         let error = io::Error::from(*kind);
         let said = format!(in rt.alloc(); "{}", Reason(&error))?;

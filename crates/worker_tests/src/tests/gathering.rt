@@ -129,21 +129,6 @@ pub fn are_compared(
     is_said(rt, desk, first, &asked, Said::Missing(place))
 }
 
-/// Two callers ask in turns, and their receipts are compared with the history.
-fn plays(rt: &(impl AllocGlobal + Abort), desk: &mut Desk<Global>) -> Result<(), Fail> {
-    let first = ask_all(rt.alloc(), desk, FIRST)?;
-    let second = ask_all(rt.alloc(), desk, SECOND)?;
-    are_compared(rt, desk, &first, &second)
-}
-
-#[test]
-fn receipts_are_compared_with_a_history(rt: HostRuntime) -> Result<(), Fail> {
-    plays(
-        &rt,
-        &mut empty_desk(rt.alloc(), rt.alloc(), THREE_CHANNELS)?,
-    )
-}
-
 /// How many requests a heap had before a look at the receipts of two callers, which are whole; one that is refused is told.
 fn requests_before(rt: &impl Abort, scratch: Global, heap: &RefusingHeap) -> Result<u64, Fail> {
     let mut desk = empty_desk(heap, scratch, THREE_CHANNELS)?;

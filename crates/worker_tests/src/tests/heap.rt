@@ -1,42 +1,9 @@
+//! That a heap counts the requests for memory, and refuses those that it is made to: no clause says that.
 use refusing_heap::{Refusals, RefusingHeap};
-use std::alloc::{AllocError, Allocator, Global};
+use std::alloc::Allocator;
 use std::process::Abort;
 use std::test::Fail;
 use std::thread;
-
-/// Refusals, the number of a request, and whether it is refused.
-const NUMBERS: &[(Refusals, u64, bool)] = &[
-    (Refusals::Never, 1, false),
-    (Refusals::Never, u64::MAX, false),
-    (Refusals::Nth(0), 1, false),
-    (Refusals::Nth(3), 2, false),
-    (Refusals::Nth(3), 3, true),
-    (Refusals::Nth(3), 4, false),
-    (Refusals::From(0), 1, true),
-    (Refusals::From(3), 2, false),
-    (Refusals::From(3), 3, true),
-    (Refusals::From(3), 4, true),
-    (Refusals::From(3), u64::MAX, true),
-];
-
-#[test]
-fn refusals_name_their_requests(rt: HostRuntime) {
-    for (refusals, number, refused) in NUMBERS {
-        assert_eq!(rt;
-            refusals.refuses(*number),
-            *refused,
-            "{refusals:?} {number}"
-        );
-    }
-}
-
-#[test]
-fn refusals_are_printed(rt: HostRuntime) -> Result<(), Fail> {
-    let heap = RefusingHeap::refusing_nth(rt.alloc(), 7);
-    let printed = format!(in rt.alloc(); "{:?}", heap.refusals())?;
-    assert_eq!(rt; printed.as_str(), "Nth(7)");
-    Ok(())
-}
 
 /// So many requests were made, and so many of them refused.
 fn counts(rt: &impl Abort, heap: &RefusingHeap, requests: u64, refused: u64) {
@@ -123,87 +90,6 @@ fn shrinking_is_a_request(rt: HostRuntime) -> Result<(), Fail> {
     items.push_reserved(7u64);
     shrinks(&rt, &heap, &mut items, 10, 2);
     shrinks(&rt, &heap, &mut items, 1, 3);
-    Ok(())
-}
-
-// Pushes 0, 1, .. up to the room that the first of them makes: how many they are.
-fn fill<A: Allocator + Copy>(items: &mut Vec<u64, A>) -> Result<u64, AllocError> {
-    items.push(0)?;
-    let room = items.capacity() as u64;
-    for item in 1..room {
-        items.push(item)?;
-    }
-    Ok(room)
-}
-
-// One more item is refused by the heap, and then pushed.
-fn keeps_its_items<'a>(
-    rt: &impl Abort,
-    heap: &'a RefusingHeap,
-    items: &mut Vec<u64, &'a RefusingHeap>,
-) -> Result<(), Fail> {
-    let room = fill(items)?;
-    counts(rt, heap, 1, 0);
-    assert!(rt; items.push(room).is_err());
-    counts(rt, heap, 2, 1);
-    assert!(rt; items.iter().copied().eq(0..room));
-    items.push(room)?;
-    counts(rt, heap, 3, 1);
-    assert!(rt; items.iter().copied().eq(0..=room));
-    Ok(())
-}
-
-#[test]
-fn a_vector_keeps_its_items_after_a_refusal(rt: HostRuntime) -> Result<(), Fail> {
-    let heap = RefusingHeap::refusing_nth(rt.alloc(), 2);
-    let mut items = Vec::new(&heap);
-    counts(&rt, &heap, 0, 0);
-    keeps_its_items(&rt, &heap, &mut items)
-}
-
-// Asks for two blocks at least: one for each list.
-fn squares_and_cubes<A: Allocator + Copy>(
-    alloc: A,
-    up_to: u64,
-) -> Result<(Vec<u64, A>, Vec<u64, A>), AllocError> {
-    let (mut squares, mut cubes) = (Vec::new(alloc), Vec::new(alloc));
-    for n in 0..up_to {
-        squares.push(n.wrapping_mul(n))?;
-        cubes.push(n.wrapping_mul(n).wrapping_mul(n))?;
-    }
-    Ok((squares, cubes))
-}
-
-// How many runs were refused something, until one was refused nothing.
-fn refused_runs(rt: &impl Abort, alloc: Global, lasting: bool) -> u64 {
-    let mut runs = 0u64;
-    for n in 1..100 {
-        let refusals = if lasting {
-            Refusals::From(n)
-        } else {
-            Refusals::Nth(n)
-        };
-        let heap = RefusingHeap::new(alloc, refusals);
-        let answer = squares_and_cubes(&heap, 40);
-        assert_eq!(rt; answer.is_err(), heap.was_refused(), "{refusals:?}");
-        if !heap.was_refused() {
-            break;
-        }
-        counts(rt, &heap, n, 1);
-        runs = runs.saturating_add(1);
-    }
-    runs
-}
-
-#[test]
-fn each_refusal_is_answered(rt: HostRuntime) -> Result<(), Fail> {
-    let ample = RefusingHeap::ample(rt.alloc());
-    let (squares, cubes) = squares_and_cubes(&ample, 40)?;
-    assert_eq!(rt; (squares.len(), cubes.len()), (40, 40));
-    assert!(rt; 2 <= ample.requests());
-    for lasting in [false, true] {
-        assert_eq!(rt; refused_runs(&rt, rt.alloc(), lasting), ample.requests());
-    }
     Ok(())
 }
 

@@ -1,10 +1,8 @@
 //! Messages in a capture file, where memory is refused. What stands in the file `tests/commands/view_files.t` shows.
-use super::{equals_at, holds_at};
+use super::{Fail, RefusingHeap, equals_at, holds_at};
 use capture::{Capture, CaptureFault, Path, Side, Way, Wire};
-use refusing_heap::RefusingHeap;
 use std::alloc::Global;
 use std::process::Abort;
-use std::test::Fail;
 
 /// The first controller's link to TRX 0 of cell 0.
 const ABIS: Path = Path {
@@ -28,7 +26,7 @@ const REQUIRED: &[u8] = &[
 
 /// Captures a message. Where memory is refused the file stays as it was, and asked again it is captured.
 fn captures(
-    rt: &(impl Abort),
+    rt: &impl Abort,
     heap: &RefusingHeap,
     capture: &mut Capture<&RefusingHeap>,
     second: u32,
@@ -58,6 +56,8 @@ fn captured(alloc: Global) -> Result<Vec<u8>, Fail> {
 #[test]
 fn refused_memory_leaves_the_file_as_it_was(rt: HostRuntime) -> Result<(), Fail> {
     let wanted = captured(rt.alloc())?;
+    let heap = RefusingHeap::refusing_nth(rt.alloc(), 1);
+    holds_at(&rt, Capture::new(&heap).is_err(), "the header");
     let mut last = 0;
     for n in 2..100 {
         let heap = RefusingHeap::refusing_nth(rt.alloc(), n);
@@ -75,22 +75,20 @@ fn refused_memory_leaves_the_file_as_it_was(rt: HostRuntime) -> Result<(), Fail>
     Ok(())
 }
 
-#[test]
-fn a_capture_needs_memory(rt: HostRuntime) {
-    let heap = RefusingHeap::refusing_nth(rt.alloc(), 1);
-    holds_at(&rt, Capture::new(&heap).is_err(), "the header");
-}
+// Faults, and how each is printed.
+const FAULTS: &[(CaptureFault, &str)] = &[
+    (
+        CaptureFault::TooLong,
+        "the message is too long for a packet",
+    ),
+    (CaptureFault::NoMemory, "memory was refused"),
+];
 
 #[test]
 fn faults_say_why(rt: HostRuntime) -> Result<(), Fail> {
-    let long = CaptureFault::TooLong.to_string(rt.alloc())?;
-    equals_at(
-        &rt,
-        long.as_str(),
-        "the message is too long for a packet",
-        "too long",
-    );
-    let memory = CaptureFault::NoMemory.to_string(rt.alloc())?;
-    equals_at(&rt, memory.as_str(), "memory was refused", "no memory");
+    for (fault, wanted) in FAULTS {
+        let said = fault.to_string(rt.alloc())?;
+        equals_at(&rt, said.as_str(), *wanted, wanted);
+    }
     Ok(())
 }

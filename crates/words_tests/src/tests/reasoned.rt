@@ -1,8 +1,8 @@
-use super::holds_at;
-use lab::script::first_unreadable;
+//! Lines of scripts have a reason exactly where they can't be read. Which that is `unreadable_lines.t` of `tests/commands` shows.
+use super::{Fail, holds_at};
+use lab_script::script::first_unreadable;
 use script_reasons::script_reason;
 use std::process::Abort;
-use std::test::Fail;
 
 /// What a line begins with: each first word of a line, with the mark of the second controller and without, and others.
 const FRONTS: &[&str] = &[

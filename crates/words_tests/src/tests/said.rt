@@ -4,7 +4,6 @@ use screen_text::{Counted, Erasing, Progress};
 use std::alloc::Allocator;
 use std::cell::RefCell;
 use std::io::{self, LineWriter, Write};
-use std::process::Abort;
 
 /// A writer that takes nothing.
 #[derive(Drop)]
