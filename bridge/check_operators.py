@@ -12,6 +12,7 @@ from calls import Calls, Event
 from harness import FIRST, LIMIT, SECOND, SITE, Asker, is_kind, must
 from log import Log
 from operators import SIMULATED
+from relay import ARMING, DISARMING
 from stream import Times, Writer
 
 
@@ -251,18 +252,27 @@ SCRIPTS = (
 )
 
 
+def follow_timer(timers, event):
+    """A timer of a call is armed, or ends, as the bridge takes it."""
+    if event.reply != "refused" and event.name in DISARMING:
+        timers.pop(event.about, None)
+    elif event.reply != "refused" and event.name in ARMING:
+        timers[event.about] = ARMING[event.name]
+
+
 def the_book(_start, _room, program):
-    """What the events tell of channels and of attempts is what the book has, behind each line."""
+    """What the events tell of channels, of attempts and of timers is what the book has, behind each line."""
     folder = SITE.parent.parent / "tests" / "two_cells"
     for name in SCRIPTS:
         words = [program, "run", folder / "site.toml", folder / name, "--state"]
         ran = subprocess.run(words, capture_output=True, text=True, timeout=LIMIT)
         must(ran.returncode == 0 and "\nstate channel" in ran.stdout, f"{name}: {ran.stderr}")
-        calls = Calls()
+        calls, timers = Calls(), {}
         for part in f"\n{ran.stdout}".split("\nin ")[1:]:
             lines = part.split("\n")
             for event in filter(None, map(Event.of, lines)):
                 calls.follow(event)
+                follow_timer(timers, event)
             channels = {f"{it} {used.state}{f' call {used.call}' if used.call else ''}" for it, used in calls.channels.items()}
             must(channels == {it[14:] for it in lines if it.startswith("state channel ")}, f"{name}: {channels}, not\n{part}")
             attempts = {
@@ -272,6 +282,8 @@ def the_book(_start, _room, program):
             }
             moving = re.findall(r"^state call (\d+) record (\S+) \S+ (internal|incoming) (\S+) (\S+)", part, re.MULTILINE)
             must(attempts == {" ".join(it) for it in moving}, f"{name}: {attempts}, not\n{part}")
+            armed = {f"{timer} call {number}" for number, timer in timers.items()}
+            must(armed == {it[12:] for it in lines if it.startswith("state timer ")}, f"{name}: {armed}, not\n{part}")
 
 
 def a_restart(start, room, program):

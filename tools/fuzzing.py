@@ -90,7 +90,7 @@ class Fuzzed(NETWORK.Network):
     def rest(self):
         """Does all that is to be done now, and waits for the controller's answers."""
         for _ in range(MOST_ROUNDS):
-            came = self.selector.select()
+            came = self.selector.select() or self.times.seconds_left() == 0.0
             if not (came or self.links.behind or self.selector.failed or self.turns.next() or self.links.due):
                 if not self.relay.core or not self.relay.given:
                     return
@@ -205,9 +205,10 @@ class Life:
         """Ends what is there yet."""
         if not hasattr(self, "bridge"):
             return
-        if self.bridge.core:
-            self.bridge.core.kill()
-            self.bridge.core.wait()
+        # (it has none where the program isn't there)
+        if core := getattr(self.bridge, "core", None):
+            core.kill()
+            core.wait()
         for it in (*self.bridge.sockets.values(), *self.bridge.listeners):
             it.close()
         for peer in (self.stations, self.operators, self.centre, self.gateway) if hasattr(self, "peers") else ():
