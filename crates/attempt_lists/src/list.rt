@@ -5,6 +5,7 @@ use cell_table::Site;
 use lab_runs::run::{Sites, Status, read_sites, refuse_site};
 use radio_book::book::Book;
 use radio_book::event::{Event, Reply};
+use radio_book::facts::facts_of;
 use radio_book::rewind::{RewindFault, Rewound, rewind};
 use read_traces::choices::{Texts, choices_of_trace, event_lines};
 use read_traces::reading::{Told, fresh_book, refuse_line, told_entries};
@@ -33,34 +34,9 @@ struct Opening {
     call: u16,
 }
 
-/// The call whose attempt an event opens.
-fn opened_by(event: Event) -> Option<u16> {
-    match event {
-        Event::Take(call, ..) | Event::Require(call) => Some(call),
-        Event::Open(..)
-        | Event::Clear(_)
-        | Event::Look(_)
-        | Event::Reserve(..)
-        | Event::Activate(_)
-        | Event::Undo(..)
-        | Event::Command(_)
-        | Event::Complete(_)
-        | Event::Confirm(_)
-        | Event::Refuse(_)
-        | Event::Detect(_)
-        | Event::Released(_)
-        | Event::Owner(_)
-        | Event::Order(_)
-        | Event::Left(_) => None,
-    }
-}
-
 /// Whether an event takes back the attempt of a call, and the book did.
 fn is_undo_of(call: u16, event: Event, reply: Reply) -> bool {
-    match (event, reply) {
-        (Event::Undo(undone, _), Reply::Record(..)) => undone == call,
-        (_, _) => false,
-    }
+    reply.is_accepted() && facts_of(event).undoes == Some(call)
 }
 
 /// What the book replied where the attempt of a call was taken back that opened at a place: the call's record before that.
@@ -161,7 +137,7 @@ fn list_entry<A: Allocator + Copy, W: Write>(
     at: usize,
     out: &mut W,
 ) -> Result<bool, LabFault> {
-    let Some(call) = opened_by(entry.event) else {
+    let Some((call, _)) = facts_of(entry.event).opens else {
         return Ok(true);
     };
     let opening = Opening {

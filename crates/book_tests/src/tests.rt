@@ -10,6 +10,7 @@ mod inverses;
 mod memory;
 mod openings;
 mod owed;
+mod readers;
 mod worked;
 
 use cell_table::Site;

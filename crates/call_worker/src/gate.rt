@@ -1,11 +1,12 @@
 //! A seat at a shared desk that tells a gate how far calls have come.
 ghost use Rattle.std.specs.Prelude.{◌≡◌, length};
-ghost use Rattle.call_worker.specs.Points.{point_of, told_of};
+ghost use Rattle.call_worker.specs.Points.{point_at, point_of, told_of};
 
-use channel_fsm::Rate;
 use ho_procedure::shared::Shared;
 use ho_procedure::view::DeskView;
-use radio_book::event::{Event, Kind, Reply};
+use radio_book::ask::Ask;
+use radio_book::event::Event;
+use radio_book::facts::{Milestone, facts_of};
 use radio_desk::desk::DeskFault;
 use radio_desk::seat::Receipt;
 use std::alloc::{Allocator, Global};
@@ -44,28 +45,25 @@ impl<R: Wait + Drop, G: Gate + Drop, A: Allocator> Model for Gated<R, G, A> {
     ghost view = { λ gated. gated.shared };
 }
 
+/// The point to which a call comes at a milestone.
+fn point_at(milestone: Milestone) -> Option<Point>
+    ensures { result ≡ point_at milestone }
+{
+    match milestone {
+        Milestone::Opened | Milestone::Began => None,
+        Milestone::Commanded => Some(Point::Commanded),
+        Milestone::Completed | Milestone::Undone => Some(Point::Answered),
+    }
+}
+
 /// The call that comes to a point by the event, once it is accepted.
 fn point_of(event: Event) -> Option<(u16, Point)>
     ensures { result ≡ point_of event }
 {
-    match event {
-        Event::Command(call) => Some((call, Point::Commanded)),
-        Event::Complete(call) | Event::Undo(call, _) => Some((call, Point::Answered)),
-        Event::Open(..)
-        | Event::Clear(_)
-        | Event::Look(_)
-        | Event::Take(..)
-        | Event::Reserve(..)
-        | Event::Activate(_)
-        | Event::Confirm(_)
-        | Event::Refuse(_)
-        | Event::Detect(_)
-        | Event::Released(_)
-        | Event::Owner(_)
-        | Event::Require(_)
-        | Event::Order(_)
-        | Event::Left(_) => None,
-    }
+    let facts = facts_of(event);
+    let call = facts.about.call()?;
+    let point = point_at(facts.milestone?)?;
+    Some((call, point))
 }
 
 /// What a gate is told of a receipt.
@@ -115,33 +113,12 @@ impl<R: Wait + Drop, G: Gate + Drop, A: Allocator + Copy> DeskView for Gated<R, 
 
     ghost judged = { λ before receipt after. Joined before receipt after };
 
-    // The desk's lock is given back before the gate is told. Only `judge` is asked a Command, a Complete or an Undo.
-    fn judge(&mut self, event: Event) -> Result<Receipt, DeskFault> {
-        let receipt = self.shared.judge(event)?;
-        self.tell(&receipt);
-        Ok(receipt)
-    }
-
-    fn judge_take(
-        &mut self,
-        call: u16,
-        kind: Kind,
-        cell: u8,
-        rate: Rate,
-    ) -> Result<Option<Receipt>, DeskFault> {
-        self.shared.judge_take(call, kind, cell, rate)
-    }
-
-    fn judge_open(
-        &mut self,
-        call: u16,
-        cell: u8,
-        rate: Rate,
-    ) -> Result<Option<Receipt>, DeskFault> {
-        self.shared.judge_open(call, cell, rate)
-    }
-
-    fn judge_reserve(&mut self, call: u16) -> Result<Receipt, DeskFault> {
-        self.shared.judge_reserve(call)
+    // The desk's lock is given back before the gate is told.
+    fn ask(&mut self, ask: Ask) -> Result<Option<Receipt>, DeskFault> {
+        let answer = self.shared.ask(ask)?;
+        if let Some(receipt) = &answer {
+            self.tell(receipt);
+        }
+        Ok(answer)
     }
 }

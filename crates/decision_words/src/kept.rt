@@ -5,6 +5,7 @@ ghost use Rattle.ho_procedure.specs.Plan.{call_dropped};
 use crate::last::Last;
 use measurements::Window;
 use radio_book::event::Event;
+use radio_book::facts::facts_of;
 use rr_elements::MeasResults;
 use std::alloc::{AllocError, Allocator, Global};
 use trace_text::trace::Step;
@@ -26,25 +27,7 @@ pub(crate) struct Kept<A: Allocator = Global> {
 fn call_dropped(event: Event) -> Option<u16>
     ensures { result ≡ call_dropped event }
 {
-    match event {
-        Event::Open(call, _)
-        | Event::Clear(call)
-        | Event::Complete(call)
-        | Event::Undo(call, _)
-        | Event::Left(call) => Some(call),
-        Event::Look(_)
-        | Event::Take(..)
-        | Event::Reserve(..)
-        | Event::Activate(_)
-        | Event::Command(_)
-        | Event::Confirm(_)
-        | Event::Refuse(_)
-        | Event::Detect(_)
-        | Event::Released(_)
-        | Event::Owner(_)
-        | Event::Require(_)
-        | Event::Order(_) => None,
-    }
+    facts_of(event).drops
 }
 
 /// The call whose reports a controller drops at this step.

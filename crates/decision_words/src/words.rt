@@ -7,6 +7,7 @@ use decisions::{Asked, Lack, Named, judge, named_by};
 use ho_candidates::Candidate;
 use measurements::Window;
 use radio_book::event::{Event, Reply};
+use radio_book::facts::facts_of;
 use rr_elements::Ncell;
 use std::alloc::Allocator;
 use std::fmt;
@@ -214,24 +215,10 @@ fn is_named_as(neighbour: Ncell, position: u8, bsic: u8) -> bool {
 
 /// Whether an event asks for a handover: of a channel of an own cell, or of the switching centre.
 fn begins(event: Event) -> Option<&'static str> {
-    match event {
-        Event::Take(..) => Some("tried, a channel is taken"),
-        Event::Require(_) => Some("tried, the centre is asked"),
-        Event::Open(..)
-        | Event::Clear(_)
-        | Event::Look(_)
-        | Event::Reserve(..)
-        | Event::Activate(_)
-        | Event::Undo(..)
-        | Event::Command(_)
-        | Event::Complete(_)
-        | Event::Order(_)
-        | Event::Left(_)
-        | Event::Confirm(_)
-        | Event::Refuse(_)
-        | Event::Released(_)
-        | Event::Detect(_)
-        | Event::Owner(_) => None,
+    match facts_of(event).opens {
+        Some((_, Some(_))) => Some("tried, a channel is taken"),
+        Some((_, None)) => Some("tried, the centre is asked"),
+        None => None,
     }
 }
 

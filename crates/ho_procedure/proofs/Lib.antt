@@ -26,3 +26,5 @@ pub mod LayerThree
 pub mod CellNames
 -- octets that can't be read are never anything else
 pub mod Undecoded
+-- what one view says of what it is asked, where another says more
+pub mod Saying

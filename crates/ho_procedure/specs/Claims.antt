@@ -3,6 +3,10 @@
 -- doesn't know the view's last receipt, and for which events, and where a channel is taken, it may be refused memory.
 use Rattle.std.specs.Prelude.{◌≡◌, ℕ, IsTrue, List}
 use Rattle.timeslots.specs.declared.Rate.{Rate}
+use Rattle.timeslots.specs.Parts.{rate_of}
+use Rattle.channel_fsm.specs.declared.ChanId.{ChanId}
+use Rattle.radio_book.specs.declared.ask.Ask.{Ask}
+use Rattle.radio_book.specs.declared.ask.Ask.TheVariants as ask
 use Rattle.radio_book.specs.declared.event.Event.{Event}
 use Rattle.radio_book.specs.declared.event.Event.TheVariants.{Open, Clear, Look, Take, Reserve, Activate, Command, Complete, Undo, Confirm, Refuse, Detect, Released, Owner, Require, Order, Left}
 use Rattle.radio_book.specs.declared.event.Reply.{Reply}
@@ -64,6 +68,34 @@ IsTrueAfter opening log (Opening book) = book ≡ opening
 IsTrueAfter opening log (UnknownReceipt place) = ⊥
 IsTrueAfter opening log (MayBeRefused e) = (b : State) × Leads opening log b × MayLackRoom b e
 IsTrueAfter opening log (TakeMayBeRefused cell rate) = (b : State) × Leads opening log b × (free.NoneFreeAt b cell rate → ⊥)
+
+-- the event answers what is asked, whatever is free
+abbrev pub IsFor : Ask → Event → Type 0
+IsFor (ask.Event e) chosen = chosen ≡ e
+IsFor (ask.Take c kind cell rate) chosen = (x : ChanId) × (x.cell ≡ cell) × (rate_of x.sub ≡ rate) × (chosen ≡ Take c kind x)
+IsFor (ask.Open c cell rate) chosen = (x : ChanId) × (x.cell ≡ cell) × (rate_of x.sub ≡ rate) × (chosen ≡ Open c x)
+IsFor (ask.Reserve c) chosen = (n : ℕ) × (chosen ≡ Reserve c n)
+
+-- What a view claims where it is asked this: that what is chosen is there,
+abbrev pub SaysChosen : (Claim → Type 0) → Ask → Event → Type 0
+SaysChosen says (ask.Event e) chosen = Unit {0}
+SaysChosen says (ask.Take c kind cell rate) chosen = says (Chosen chosen)
+SaysChosen says (ask.Open c cell rate) chosen = says (Chosen chosen)
+SaysChosen says (ask.Reserve c) chosen = says (Chosen chosen)
+
+-- that no channel is free, where it answers no event,
+abbrev pub SaysNone : (Claim → Type 0) → Ask → Type 0
+SaysNone says (ask.Event e) = ⊥
+SaysNone says (ask.Take c kind cell rate) = says (NoneFree cell rate)
+SaysNone says (ask.Open c cell rate) = says (NoneFree cell rate)
+SaysNone says (ask.Reserve c) = ⊥
+
+-- and that memory may be refused, where it is.
+abbrev pub SaysRefused : (Claim → Type 0) → Ask → Type 0
+SaysRefused says (ask.Event e) = says (MayBeRefused e)
+SaysRefused says (ask.Take c kind cell rate) = says (TakeMayBeRefused cell rate)
+SaysRefused says (ask.Open c cell rate) = says (TakeMayBeRefused cell rate)
+SaysRefused says (ask.Reserve c) = (n : ℕ) → says (MayBeRefused (Reserve c n))
 
 -- the fault is refused memory
 abbrev pub IsNoMemory : DeskFault → Type 0

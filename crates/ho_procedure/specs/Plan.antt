@@ -10,8 +10,9 @@ use Rattle.ho_candidates.specs.Candidates.{IsCandidate, SomeCandidate}
 use Rattle.ho_candidates.specs.Order.{StandsBefore}
 use Rattle.radio_book.specs.declared.event.Kind.{Kind}
 use Rattle.radio_book.specs.declared.event.Event.{Event}
-use Rattle.radio_book.specs.declared.event.Event.TheVariants.{Open, Clear, Look, Take, Reserve, Activate, Command, Complete, Undo, Confirm, Refuse, Detect, Released, Owner, Require, Order, Left}
+use Rattle.radio_book.specs.declared.event.Event.TheVariants.{Reserve}
 use Rattle.radio_book.specs.declared.event.Reply.{Reply}
+use Rattle.radio_book.specs.Facts.{event_facts}
 use Rattle.radio_book.specs.Kinds.{is_accepted}
 use Rattle.ho_procedure.specs.Claims.{Entry, Claim, NoneFree, Chosen, MayBeRefused, TakeMayBeRefused}
 use Rattle.ho_procedure.specs.Sent.{Sent}
@@ -169,26 +170,9 @@ abbrev pub ChoicesAt : (List Entry → Claim → Type 0) → List Entry → List
 ChoicesAt says log [] = Unit {0}
 ChoicesAt says log (s ∷ t) = ChoiceIn (says log) s × ChoicesAt says (log ++ entries_in s) t
 
--- The call whose reports are dropped once the event is accepted: one that begins, that is served on another channel from
--- now on or none, or whose attempt is taken back.
+-- the call whose reports are dropped once the event is accepted
 abbrev pub call_dropped : Event → Option ℕ
-call_dropped (Open c x) = Some c
-call_dropped (Clear c) = Some c
-call_dropped (Complete c) = Some c
-call_dropped (Undo c why) = Some c
-call_dropped (Left c) = Some c
-call_dropped (Look c) = None
-call_dropped (Take c k x) = None
-call_dropped (Reserve c n) = None
-call_dropped (Activate c) = None
-call_dropped (Command c) = None
-call_dropped (Confirm x) = None
-call_dropped (Refuse x) = None
-call_dropped (Detect x) = None
-call_dropped (Released x) = None
-call_dropped (Owner x) = None
-call_dropped (Require c) = None
-call_dropped (Order c) = None
+call_dropped e = (event_facts e).drops
 
 abbrev pub dropped_if : Bool → Option ℕ → ℕ → List Results → List Results
 dropped_if accepted None call reports = reports

@@ -1,13 +1,11 @@
 //! A desk that threads share.
 ghost use Rattle.std.specs.Prelude.{◌≡◌, ◌∷◌, ◌++◌, [], ℕ, length, Err, IfOk, IfSome, MatchOption, OnErr};
-ghost use Rattle.channel_fsm.specs.declared.ChanId.{ChanId};
-ghost use Rattle.timeslots.specs.Parts.{rate_of};
 ghost use Rattle.radio_desk.specs.Receipts.{IsRising, Joined, receipted};
+ghost use Rattle.ho_procedure.specs.Claims.{IsFor, SaysNone, SaysChosen};
 ghost use Rattle.ho_procedure.specs.Seats.{IsLastPlace};
 
 use crate::view::DeskView;
-use channel_fsm::Rate;
-use radio_book::event::{Event, Kind};
+use radio_book::ask::Ask;
 use radio_desk::desk::{Desk, DeskFault};
 use radio_desk::seat::{Receipt, Seat};
 use std::alloc::{Allocator, Global};
@@ -99,30 +97,10 @@ impl<R: Wait + Drop, A: Allocator + Copy> DeskView for Shared<R, A> {
     // trait's: where nothing was answered the receipts are the same, each at its place, and a foreign desk is one that
     // doesn't know the last of them.
     #[tactic(auto, using(crate::proofs::Seats::receipted_more))]
-    fn judge(&mut self, event: Event) -> Result<Receipt, DeskFault>
-        ensures ok { IfOk result (λ r. (r.event ≡ event) ×
-            (receipted self.new ≡ receipted self.old ++ (r.event, r.reply) ∷ [])) }
-        ensures receipt { IfOk result (λ r. Joined self.old r self.new) }
-        ensures err { OnErr result (self.new ≡ self.old) }
-        ensures place { (place : ℕ) → result ≡ Err (DeskFault.Foreign place) →
-            IsLastPlace self.old place }
-    {
-        self.receipts.reserve(1)?;
-        let receipt = self.lock.lock(&self.rt).judge(&mut self.seat, event)?;
-        self.receipts.push_reserved(receipt);
-        Ok(receipt)
-    }
-
-    #[tactic(auto, using(crate::proofs::Seats::receipted_more))]
-    fn judge_take(
-        &mut self,
-        call: u16,
-        kind: Kind,
-        cell: u8,
-        rate: Rate,
-    ) -> Result<Option<Receipt>, DeskFault>
-        ensures ok { IfOk result (λ answer. MatchOption answer (self.new ≡ self.old)
-            (λ r. ((x : ChanId) × (x.cell ≡ cell) × (rate_of x.sub ≡ rate) × (r.event ≡ Event.Take call kind x)) ×
+    fn ask(&mut self, ask: Ask) -> Result<Option<Receipt>, DeskFault>
+        ensures ok { IfOk result (λ answer. MatchOption answer
+            ((self.new ≡ self.old) × SaysNone (λ claim. Unit {0}) ask)
+            (λ r. IsFor ask r.event × SaysChosen (λ claim. Unit {0}) ask r.event ×
             (receipted self.new ≡ receipted self.old ++ (r.event, r.reply) ∷ []))) }
         ensures receipt { IfOk result (λ answer. IfSome answer (λ r. Joined self.old r self.new)) }
         ensures err { OnErr result (self.new ≡ self.old) }
@@ -130,52 +108,10 @@ impl<R: Wait + Drop, A: Allocator + Copy> DeskView for Shared<R, A> {
             IsLastPlace self.old place }
     {
         self.receipts.reserve(1)?;
-        let found = self
-            .lock
-            .lock(&self.rt)
-            .judge_take(&mut self.seat, call, kind, cell, rate)?;
+        let found = self.lock.lock(&self.rt).ask(&mut self.seat, ask)?;
         if let Some(receipt) = found {
             self.receipts.push_reserved(receipt);
         }
         Ok(found)
-    }
-
-    #[tactic(auto, using(crate::proofs::Seats::receipted_more))]
-    fn judge_open(&mut self, call: u16, cell: u8, rate: Rate) -> Result<Option<Receipt>, DeskFault>
-        ensures ok { IfOk result (λ answer. MatchOption answer (self.new ≡ self.old)
-            (λ r. ((x : ChanId) × (x.cell ≡ cell) × (rate_of x.sub ≡ rate) × (r.event ≡ Event.Open call x)) ×
-            (receipted self.new ≡ receipted self.old ++ (r.event, r.reply) ∷ []))) }
-        ensures receipt { IfOk result (λ answer. IfSome answer (λ r. Joined self.old r self.new)) }
-        ensures err { OnErr result (self.new ≡ self.old) }
-        ensures place { (place : ℕ) → result ≡ Err (DeskFault.Foreign place) →
-            IsLastPlace self.old place }
-    {
-        self.receipts.reserve(1)?;
-        let opened = self
-            .lock
-            .lock(&self.rt)
-            .judge_open(&mut self.seat, call, cell, rate)?;
-        if let Some(receipt) = opened {
-            self.receipts.push_reserved(receipt);
-        }
-        Ok(opened)
-    }
-
-    #[tactic(auto, using(crate::proofs::Seats::receipted_more))]
-    fn judge_reserve(&mut self, call: u16) -> Result<Receipt, DeskFault>
-        ensures ok { IfOk result (λ r. ((n : ℕ) × (r.event ≡ Event.Reserve call n)) ×
-            (receipted self.new ≡ receipted self.old ++ (r.event, r.reply) ∷ [])) }
-        ensures receipt { IfOk result (λ r. Joined self.old r self.new) }
-        ensures err { OnErr result (self.new ≡ self.old) }
-        ensures place { (place : ℕ) → result ≡ Err (DeskFault.Foreign place) →
-            IsLastPlace self.old place }
-    {
-        self.receipts.reserve(1)?;
-        let receipt = self
-            .lock
-            .lock(&self.rt)
-            .judge_reserve(&mut self.seat, call)?;
-        self.receipts.push_reserved(receipt);
-        Ok(receipt)
     }
 }

@@ -1,17 +1,13 @@
 //! A desk of one's own.
 ghost use Rattle.std.specs.Prelude.{◌≡◌, ◌⊎◌, ◌∷◌, ◌++◌, [], ℕ, List, Ok, Err, None, IfOk, IfErr, OnErr, IfSome, MatchOption};
-ghost use Rattle.channel_fsm.specs.declared.ChanId.{ChanId};
-ghost use Rattle.timeslots.specs.Parts.{rate_of};
 ghost use Rattle.radio_book.specs.declared.event.Event.{Event};
-ghost use Rattle.radio_book.specs.Choice.{TakesFree, OpensFree};
-ghost use Rattle.radio_book.specs.Choice as free;
+ghost use Rattle.radio_book.specs.Asks.{IsAsked, NoneFor};
 ghost use Rattle.radio_book.specs.Table.{row, NeedsRoom};
 ghost use Rattle.radio_desk.specs.Desk.{IsJudged, LacksRoom};
-ghost use Rattle.ho_procedure.specs.Claims.{Entry, Claim, NoneFree, Chosen, UnknownReceipt, MayBeRefused, TakeMayBeRefused, IsForeign, IsNoMemory, IsTrueAfter};
+ghost use Rattle.ho_procedure.specs.Claims.{Entry, Claim, UnknownReceipt, IsFor, SaysNone, SaysChosen, SaysRefused, IsForeign, IsNoMemory, IsTrueAfter};
 
 use crate::view::{DeskView, OwnDesk};
-use channel_fsm::Rate;
-use radio_book::event::{Event, Kind};
+use radio_book::ask::Ask;
 use radio_desk::desk::{Desk, DeskFault};
 use radio_desk::seat::{Receipt, Seat};
 use std::alloc::{AllocError, Allocator, Global};
@@ -70,37 +66,14 @@ impl<A: Allocator + Copy> DeskView for Solo<A> {
 
     ghost judged = { λ before receipt after. IsJudged before receipt after };
 
-    // The trait's clauses once more, and that memory is refused only where the desk may be refused it.
-    fn judge(&mut self, event: Event) -> Result<Receipt, DeskFault>
-        ensures ok { IfOk result (λ r. (r.event ≡ event) ×
-            (self.new.history ≡ self.old.history ++ (r.event, r.reply) ∷ [])) }
-        ensures receipt { IfOk result (λ r. IsJudged self.old r self.new) }
-        ensures err { OnErr result (self.new.history ≡ self.old.history) }
-        ensures foreign { IfErr result (λ f. (place : ℕ) → IsForeign f place →
-            IsTrueAfter self.old.opening self.old.history (UnknownReceipt place)) }
-        ensures memory { IfErr result (λ f. IsNoMemory f →
-            IsTrueAfter self.old.opening self.old.history (MayBeRefused event)) }
-        ensures refused { result ≡ Err DeskFault.NoMemory →
-            LacksRoom self.old ⊎ NeedsRoom self.old.book (row self.old.book event) }
-        ensures said { (es : List Entry) → (claim : Claim) →
-            IsTrueAfter self.new.opening es claim → IsTrueAfter self.old.opening es claim }
-    {
-        let _entries = self.desk.len();
-        self.desk.judge(&mut Seat::new(), event)
-    }
-
-    fn judge_take(
-        &mut self,
-        call: u16,
-        kind: Kind,
-        cell: u8,
-        rate: Rate,
-    ) -> Result<Option<Receipt>, DeskFault>
+    // The trait's clauses once more; that no channel is found where none is free; and that memory is refused only where the desk
+    // may be refused it.
+    fn ask(&mut self, ask: Ask) -> Result<Option<Receipt>, DeskFault>
         ensures ok { IfOk result (λ answer. MatchOption answer
             ((self.new.history ≡ self.old.history) ×
-            IsTrueAfter self.old.opening self.old.history (NoneFree cell rate))
-            (λ r. ((x : ChanId) × (x.cell ≡ cell) × (rate_of x.sub ≡ rate) × (r.event ≡ Event.Take call kind x)) ×
-            IsTrueAfter self.old.opening self.old.history (Chosen r.event) ×
+            SaysNone (IsTrueAfter self.old.opening self.old.history) ask)
+            (λ r. IsFor ask r.event ×
+            SaysChosen (IsTrueAfter self.old.opening self.old.history) ask r.event ×
             (self.new.history ≡ self.old.history ++ (r.event, r.reply) ∷ []))) }
         ensures receipt { IfOk result (λ answer. IfSome answer
             (λ r. IsJudged self.old r self.new)) }
@@ -108,60 +81,16 @@ impl<A: Allocator + Copy> DeskView for Solo<A> {
         ensures foreign { IfErr result (λ f. (place : ℕ) → IsForeign f place →
             IsTrueAfter self.old.opening self.old.history (UnknownReceipt place)) }
         ensures memory { IfErr result (λ f. IsNoMemory f →
-            IsTrueAfter self.old.opening self.old.history (TakeMayBeRefused cell rate)) }
-        ensures looked { free.NoneFreeAt self.old.book cell rate → result ≡ Ok None }
+            SaysRefused (IsTrueAfter self.old.opening self.old.history) ask) }
+        ensures looked { NoneFor self.old.book ask → result ≡ Ok None }
         ensures refused { result ≡ Err DeskFault.NoMemory → LacksRoom self.old ⊎
-            ((e : Event) × TakesFree self.old.book call kind cell rate e ×
+            ((e : Event) × IsAsked self.old.book ask e ×
             NeedsRoom self.old.book (row self.old.book e)) }
         ensures said { (es : List Entry) → (claim : Claim) →
             IsTrueAfter self.new.opening es claim → IsTrueAfter self.old.opening es claim }
     {
         let _entries = self.desk.len();
-        self.desk
-            .judge_take(&mut Seat::new(), call, kind, cell, rate)
-    }
-
-    fn judge_open(&mut self, call: u16, cell: u8, rate: Rate) -> Result<Option<Receipt>, DeskFault>
-        ensures ok { IfOk result (λ answer. MatchOption answer
-            ((self.new.history ≡ self.old.history) ×
-            IsTrueAfter self.old.opening self.old.history (NoneFree cell rate))
-            (λ r. ((x : ChanId) × (x.cell ≡ cell) × (rate_of x.sub ≡ rate) × (r.event ≡ Event.Open call x)) ×
-            IsTrueAfter self.old.opening self.old.history (Chosen r.event) ×
-            (self.new.history ≡ self.old.history ++ (r.event, r.reply) ∷ []))) }
-        ensures receipt { IfOk result (λ answer. IfSome answer
-            (λ r. IsJudged self.old r self.new)) }
-        ensures err { OnErr result (self.new.history ≡ self.old.history) }
-        ensures foreign { IfErr result (λ f. (place : ℕ) → IsForeign f place →
-            IsTrueAfter self.old.opening self.old.history (UnknownReceipt place)) }
-        ensures memory { IfErr result (λ f. IsNoMemory f →
-            IsTrueAfter self.old.opening self.old.history (TakeMayBeRefused cell rate)) }
-        ensures looked { free.NoneFreeAt self.old.book cell rate → result ≡ Ok None }
-        ensures refused { result ≡ Err DeskFault.NoMemory → LacksRoom self.old ⊎
-            ((e : Event) × OpensFree self.old.book call cell rate e ×
-            NeedsRoom self.old.book (row self.old.book e)) }
-        ensures said { (es : List Entry) → (claim : Claim) →
-            IsTrueAfter self.new.opening es claim → IsTrueAfter self.old.opening es claim }
-    {
-        let _entries = self.desk.len();
-        self.desk.judge_open(&mut Seat::new(), call, cell, rate)
-    }
-
-    fn judge_reserve(&mut self, call: u16) -> Result<Receipt, DeskFault>
-        ensures ok { IfOk result (λ r. ((n : ℕ) × (r.event ≡ Event.Reserve call n)) ×
-            IsTrueAfter self.old.opening self.old.history (Chosen r.event) ×
-            (self.new.history ≡ self.old.history ++ (r.event, r.reply) ∷ [])) }
-        ensures receipt { IfOk result (λ r. IsJudged self.old r self.new) }
-        ensures err { OnErr result (self.new.history ≡ self.old.history) }
-        ensures foreign { IfErr result (λ f. (place : ℕ) → IsForeign f place →
-            IsTrueAfter self.old.opening self.old.history (UnknownReceipt place)) }
-        ensures memory { IfErr result (λ f. IsNoMemory f → (n : ℕ) →
-            IsTrueAfter self.old.opening self.old.history (MayBeRefused (Event.Reserve call n))) }
-        ensures refused { result ≡ Err DeskFault.NoMemory → LacksRoom self.old }
-        ensures said { (es : List Entry) → (claim : Claim) →
-            IsTrueAfter self.new.opening es claim → IsTrueAfter self.old.opening es claim }
-    {
-        let _entries = self.desk.len();
-        self.desk.judge_reserve(&mut Seat::new(), call)
+        self.desk.ask(&mut Seat::new(), ask)
     }
 }
 

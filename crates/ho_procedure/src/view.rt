@@ -4,9 +4,10 @@ ghost use Rattle.channel_fsm.specs.declared.ChanId.{ChanId};
 ghost use Rattle.timeslots.specs.Parts.{rate_of};
 ghost use Rattle.radio_desk.specs.Receipts.{Receipt};
 ghost use Rattle.radio_desk.specs.Desk.{DeskState, IsAnew};
-ghost use Rattle.ho_procedure.specs.Claims.{Entry, Claim, NoneFree, Chosen, UnknownReceipt, MayBeRefused, TakeMayBeRefused, IsForeign, IsNoMemory};
+ghost use Rattle.ho_procedure.specs.Claims.{Entry, Claim, NoneFree, Chosen, UnknownReceipt, MayBeRefused, TakeMayBeRefused, IsFor, SaysNone, SaysChosen, SaysRefused, IsForeign, IsNoMemory};
 
 use channel_fsm::Rate;
+use radio_book::ask::Ask;
 use radio_book::event::{Event, Kind};
 use radio_desk::desk::DeskFault;
 use radio_desk::seat::Receipt;
@@ -30,11 +31,28 @@ pub trait DeskView {
     // what a receipt says of the view before and after
     ghost judged: { Self → Receipt → Self → Type 0 };
 
-    /// Asks an event (`Desk::judge`). A refused event is answered, too, with its refusal.
+    /// Asks an event, or one on what is free (`Desk::ask`). A refused event is answered, too, with its refusal. `None`: no channel
+    /// is free for what is asked, as in a cell that the site lacks, and nothing was asked.
     ///
     /// `Foreign`: the view's last receipt, of this place, isn't from its desk's history. `NoMemory`: memory was
     /// refused.
-    fn judge(&mut self, event: Event) -> Result<Receipt, DeskFault>
+    fn ask(&mut self, ask: Ask) -> Result<Option<Receipt>, DeskFault>
+        ensures ok { IfOk result (λ answer. MatchOption answer
+            ((log self.new ≡ log self.old) × SaysNone (says self.old (log self.old)) ask)
+            (λ r. IsFor ask r.event × SaysChosen (says self.old (log self.old)) ask r.event ×
+            (log self.new ≡ log self.old ++ (r.event, r.reply) ∷ []))) }
+        ensures receipt { IfOk result (λ answer. IfSome answer
+            (λ r. judged self.old r self.new)) }
+        ensures err { OnErr result (log self.new ≡ log self.old) }
+        ensures foreign { IfErr result (λ f. (place : ℕ) → IsForeign f place →
+            says self.old (log self.old) (UnknownReceipt place)) }
+        ensures memory { IfErr result (λ f. IsNoMemory f →
+            SaysRefused (says self.old (log self.old)) ask) }
+        ensures said { (es : List Entry) → (claim : Claim) →
+            says self.new es claim → says self.old es claim };
+
+    /// Asks this event: it is always answered. Faults as of `ask`.
+    final fn judge(&mut self, event: Event) -> Result<Receipt, DeskFault>
         ensures ok { IfOk result (λ r. (r.event ≡ event) ×
             (log self.new ≡ log self.old ++ (r.event, r.reply) ∷ [])) }
         ensures receipt { IfOk result (λ r. judged self.old r self.new) }
@@ -44,11 +62,16 @@ pub trait DeskView {
         ensures memory { IfErr result (λ f. IsNoMemory f →
             says self.old (log self.old) (MayBeRefused event)) }
         ensures said { (es : List Entry) → (claim : Claim) →
-            says self.new es claim → says self.old es claim };
+            says self.new es claim → says self.old es claim }
+    {
+        match self.ask(Ask::Event(event))? {
+            Some(receipt) => Ok(receipt),
+            None => unreachable!(),
+        }
+    }
 
-    /// Asks a Take of some channel of a cell that is free at a rate (`Desk::judge_take`). `None`: no channel of the cell is
-    /// free at that rate, as of a cell that the site lacks, and nothing was asked. Faults as of `judge`.
-    fn judge_take(
+    /// Asks a Take of some channel of a cell that is free at a rate. `None` where there is none, and faults, as of `ask`.
+    final fn judge_take(
         &mut self,
         call: u16,
         kind: Kind,
@@ -68,11 +91,13 @@ pub trait DeskView {
         ensures memory { IfErr result (λ f. IsNoMemory f →
             says self.old (log self.old) (TakeMayBeRefused cell rate)) }
         ensures said { (es : List Entry) → (claim : Claim) →
-            says self.new es claim → says self.old es claim };
+            says self.new es claim → says self.old es claim }
+    {
+        self.ask(Ask::Take(call, kind, cell, rate))
+    }
 
-    /// Asks an Open on some channel of a cell that is free at a rate (`Desk::judge_open`). `None`, and faults, as of
-    /// `judge_take`.
-    fn judge_open(&mut self, call: u16, cell: u8, rate: Rate) -> Result<Option<Receipt>, DeskFault>
+    /// Asks an Open on some channel of a cell that is free at a rate. `None` where there is none, and faults, as of `ask`.
+    final fn judge_open(&mut self, call: u16, cell: u8, rate: Rate) -> Result<Option<Receipt>, DeskFault>
         ensures ok { IfOk result (λ answer. MatchOption answer
             ((log self.new ≡ log self.old) × says self.old (log self.old) (NoneFree cell rate))
             (λ r. ((x : ChanId) × (x.cell ≡ cell) × (rate_of x.sub ≡ rate) × (r.event ≡ Event.Open call x)) ×
@@ -86,11 +111,14 @@ pub trait DeskView {
         ensures memory { IfErr result (λ f. IsNoMemory f →
             says self.old (log self.old) (TakeMayBeRefused cell rate)) }
         ensures said { (es : List Entry) → (claim : Claim) →
-            says self.new es claim → says self.old es claim };
+            says self.new es claim → says self.old es claim }
+    {
+        self.ask(Ask::Open(call, cell, rate))
+    }
 
     /// Asks a Reserve of some free Handover Reference, a number from 0 to 255 (TS 44.018 clause 10.5.2.15), in the cell
-    /// of the call's target (`Desk::judge_reserve`). Faults as of `judge`.
-    fn judge_reserve(&mut self, call: u16) -> Result<Receipt, DeskFault>
+    /// of the call's target: it is always answered. Faults as of `ask`.
+    final fn judge_reserve(&mut self, call: u16) -> Result<Receipt, DeskFault>
         ensures ok { IfOk result (λ r. ((n : ℕ) × (r.event ≡ Event.Reserve call n)) ×
             says self.old (log self.old) (Chosen r.event) ×
             (log self.new ≡ log self.old ++ (r.event, r.reply) ∷ [])) }
@@ -101,7 +129,13 @@ pub trait DeskView {
         ensures memory { IfErr result (λ f. IsNoMemory f →
             (n : ℕ) → says self.old (log self.old) (MayBeRefused (Event.Reserve call n))) }
         ensures said { (es : List Entry) → (claim : Claim) →
-            says self.new es claim → says self.old es claim };
+            says self.new es claim → says self.old es claim }
+    {
+        match self.ask(Ask::Reserve(call))? {
+            Some(receipt) => Ok(receipt),
+            None => unreachable!(),
+        }
+    }
 }
 
 /// A view of a desk that nobody else asks. So the desk may begin anew, without a caller whose receipts it would forget.

@@ -17,6 +17,7 @@ use channel_fsm::{ChanId, ChanState, Rate};
 use ho_candidates::{Candidate, candidates};
 use measurements::Window;
 use radio_book::event::{CallRecord, Event, Kind, Reply};
+use radio_book::facts::facts_of;
 use radio_desk::desk::DeskFault;
 use rr_elements::MeasResults;
 use std::alloc::{AllocError, Allocator};
@@ -47,31 +48,6 @@ pub(crate) struct Work<D: DeskView + Drop, A: Allocator> {
     pub(crate) alloc: A,
 }
 
-/// The call whose reports an accepted event drops.
-fn call_dropped(event: Event) -> Option<u16>
-    ensures { result ≡ call_dropped event }
-{
-    match event {
-        Event::Open(call, _)
-        | Event::Clear(call)
-        | Event::Complete(call)
-        | Event::Undo(call, _)
-        | Event::Left(call) => Some(call),
-        Event::Look(_)
-        | Event::Take(..)
-        | Event::Reserve(..)
-        | Event::Activate(_)
-        | Event::Command(_)
-        | Event::Confirm(_)
-        | Event::Refuse(_)
-        | Event::Detect(_)
-        | Event::Released(_)
-        | Event::Owner(_)
-        | Event::Require(_)
-        | Event::Order(_) => None,
-    }
-}
-
 /// Drops the reports of a call, once an event says so.
 #[tactic(auto, using(crate::proofs::Reporting::but_one))]
 fn drop_reports<A: Allocator>(windows: &mut Windows<A>, event: Event, reply: Reply)
@@ -80,7 +56,7 @@ fn drop_reports<A: Allocator>(windows: &mut Windows<A>, event: Event, reply: Rep
     ensures width { windows.new.width ≡ windows.old.width }
     ensures ready { windows.old.is_ready ≡ true → windows.new.is_ready ≡ true }
 {
-    if let Some(call) = call_dropped(event) {
+    if let Some(call) = facts_of(event).drops {
         if reply.is_accepted() {
             windows.clear(call);
         }

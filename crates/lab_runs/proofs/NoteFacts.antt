@@ -1,11 +1,18 @@
 -- Facts of notes of where no channel was free.
-use Rattle.std.proofs.Common.{◌≡◌, ◌++◌, ◌∷◌, List, [], Result, Ok, Err, OnErr, length, refl, sym, ap, subst, ◌∙◌, append_assoc, append-nil}
+use Rattle.std.proofs.Common.{◌≡◌, ◌++◌, ◌∷◌, ℕ, List, [], Option, Some, None, Result, Ok, Err, OnErr, IfOk, IfErr, MatchOption, length, rules, refl, sym, ap, subst, ◌∙◌, append_assoc, append-nil}
 use Rattle.std.specs.List.{All}
 use Rattle.std.proofs.lemmas.List.Elements.{All-weaker, All-push}
+use Rattle.timeslots.specs.declared.Rate.{Rate}
+use Rattle.radio_book.specs.declared.event.Event.{Event}
+use Rattle.radio_book.specs.declared.ask.Ask.{Ask}
+use Rattle.radio_book.specs.declared.ask.Ask.TheVariants as ask
+use Rattle.radio_book.specs.State.{State}
+use Rattle.radio_desk.specs.declared.desk.DeskFault.{DeskFault}
+use Rattle.radio_desk.specs.Receipts.{Receipt}
 use Rattle.radio_desk.specs.Desk.{DeskState}
-use Rattle.ho_procedure.specs.Claims.{Entry, Claim, NoneFree, Chosen, Opening, UnknownReceipt, MayBeRefused, TakeMayBeRefused, IsTrueAfter}
+use Rattle.ho_procedure.specs.Claims.{Entry, Claim, NoneFree, Chosen, Opening, UnknownReceipt, MayBeRefused, TakeMayBeRefused, IsFor, SaysNone, SaysChosen, SaysRefused, IsTrueAfter}
 use Rattle.lab_runs.specs.declared.noting.Note.{Note}
-use Rattle.lab_runs.specs.Notes.{NotingState, IsTrueNote}
+use Rattle.lab_runs.specs.Notes.{NotingState, IsTrueNote, sought_by, notes_after}
 use Rattle.lab_runs.specs.Turns.{IsSaidAfter, says}
 
 -- what is true of the book that it opened with now was true before
@@ -24,6 +31,52 @@ still_says d d' said es (Opening book) h = said es (Opening book) h
 still_says d d' said es (UnknownReceipt place) h = said es (UnknownReceipt place) h
 still_says d d' said es (MayBeRefused e) h = said es (MayBeRefused e) h
 still_says d d' said es (TakeMayBeRefused cell rate) h = tt
+
+-- memory may be refused for a note wherever a channel is looked for
+pub may_note : (v : NotingState) (a : Ask) (cell : ℕ) (rate : Rate) → sought_by a ≡ Some (cell, rate) → SaysRefused (says v v.desk.history) a
+may_note v (ask.Event named) cell rate is = absurd (search (rules, is))
+may_note v (ask.Take c kind _ _) cell rate is = tt
+may_note v (ask.Open c _ _) cell rate is = tt
+may_note v (ask.Reserve c) cell rate is = absurd (search (rules, is))
+
+-- where none is free for a channel that is asked for, none is at its rate in its cell
+pub none_at : (opening : State) (log : List Entry) (a : Ask) (cell : ℕ) (rate : Rate) → sought_by a ≡ Some (cell, rate) → SaysNone (IsTrueAfter opening log) a → IsTrueAfter opening log (NoneFree cell rate)
+none_at opening log (ask.Event named) cell rate is none = absurd none
+none_at opening log (ask.Take c kind k r) cell rate is none =
+    let e : Some (k, r) ≡ Some (cell, rate) = is in
+    let same_cell : k ≡ cell = cc in
+    let same_rate : r ≡ rate = cc in
+    rw (← same_cell, ← same_rate) none
+none_at opening log (ask.Open c k r) cell rate is none =
+    let e : Some (k, r) ≡ Some (cell, rate) = is in
+    let same_cell : k ≡ cell = cc in
+    let same_rate : r ≡ rate = cc in
+    rw (← same_cell, ← same_rate) none
+none_at opening log (ask.Reserve c) cell rate is none = absurd none
+
+-- what an answer adds to a history
+abbrev entries_of : Option Receipt → List Entry
+entries_of None = []
+entries_of (Some r) = (r.event, r.reply) ∷ []
+
+pub answered : (d d' : DeskState) (a : Ask) (result : Result (Option Receipt) DeskFault)
+    → IfOk result (λ answer. MatchOption answer ((d'.history ≡ d.history) × SaysNone (IsTrueAfter d.opening d.history) a) (λ r. IsFor a r.event × SaysChosen (IsTrueAfter d.opening d.history) a r.event × (d'.history ≡ d.history ++ (r.event, r.reply) ∷ [])))
+    → (answer : Option Receipt) → result ≡ Ok answer → d'.history ≡ d.history ++ entries_of answer
+answered d d' a (Err f) ok answer is = absurd (search (rules, is))
+answered d d' a (Ok None) ok answer is =
+    let e : Ok None ≡ Ok answer = is in
+    let none : None ≡ answer = cc in
+    rw (← none) (ok.0 ∙ sym (append-nil d.history))
+answered d d' a (Ok (Some r)) ok answer is =
+    let e : Ok (Some r) ≡ Ok answer = is in
+    let some : Some r ≡ answer = cc in
+    rw (← some) ok.2
+
+-- nothing is noted where no channel was looked for
+pub not_sought : (v : NotingState) (a : Ask) (result : Result (Option Receipt) DeskFault) → sought_by a ≡ None → IfOk result (λ answer. v.notes ≡ notes_after v a answer)
+not_sought v a (Err f) is = tt
+not_sought v a (Ok (Some r)) is = refl
+not_sought v a (Ok None) is = rw is (sym (append-nil v.notes))
 
 stays_true : (d d' : DeskState) (more : List Entry) (n : Note) → d'.opening ≡ d.opening → d'.history ≡ d.history ++ more → IsTrueNote d n → IsTrueNote d' n
 stays_true d d' more n opening grown h = record {

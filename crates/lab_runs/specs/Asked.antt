@@ -17,8 +17,8 @@ use Rattle.rsl_messages.specs.Texts.{canonical_text}
 use Rattle.radio_tables.specs.declared.kinds.CallRecord.{CallRecord}
 use Rattle.radio_tables.specs.States.{channel_row, owner}
 use Rattle.radio_book.specs.declared.event.Event.{Event}
-use Rattle.radio_book.specs.declared.event.Event.TheVariants as event
 use Rattle.radio_book.specs.declared.event.Reply.{Reply}
+use Rattle.radio_book.specs.Facts.{event_facts}
 use Rattle.radio_book.specs.Kinds.{is_accepted}
 use Rattle.radio_book.specs.State.{State, state_of, record_of}
 use Rattle.radio_desk.specs.Desk.{DeskState}
@@ -57,25 +57,9 @@ mobile_channel b call = option_or (serving_channel (record_of b call)) (target_c
 
 -- the call to which an event gives a channel, and that channel
 abbrev pub given_by : Event → Option (ℕ × ChanId)
-given_by (event.Open c x) = Some (c, x)
-given_by (event.Take c kind x) = Some (c, x)
-given_by (event.Clear c) = None
-given_by (event.Look c) = None
-given_by (event.Reserve c n) = None
-given_by (event.Activate c) = None
-given_by (event.Command c) = None
-given_by (event.Complete c) = None
-given_by (event.Undo c why) = None
-given_by (event.Confirm x) = None
-given_by (event.Refuse x) = None
-given_by (event.Detect x) = None
-given_by (event.Released x) = None
-given_by (event.Owner x) = None
-given_by (event.Require c) = None
-given_by (event.Order c) = None
-given_by (event.Left c) = None
+given_by e = (event_facts e).gives
 
--- the same of an entry, whose event may have been refused
+-- the call to which an entry gave a channel, and that channel; an event that was refused gave none
 abbrev pub given_in : Entry → Option (ℕ × ChanId)
 given_in e = if is_accepted e.1 then given_by e.0 else None
 

@@ -2,6 +2,8 @@
 use Rattle.std.specs.Prelude.{◌≡◌, ◌++◌, ◌∷◌, ◌==◌, if◌then◌else◌, ℕ, suc, List, [], Option, Some, None, length, refl}
 use Rattle.std.specs.Coded.{Coded, code_by, coded×, coded_list}
 use Rattle.timeslots.specs.declared.Rate.{Rate}
+use Rattle.radio_book.specs.declared.ask.Ask.{Ask}
+use Rattle.radio_book.specs.declared.ask.Ask.TheVariants as ask
 use Rattle.radio_book.specs.State.{State}
 use Rattle.radio_desk.specs.Desk.{DeskState, desk_code}
 use Rattle.radio_desk.specs.Receipts.{Receipt}
@@ -28,10 +30,22 @@ pub record IsTrueNote (d : DeskState) (n : Note) : Type 0 where
   pub place : length before ≡ n.place
   pub none_free : IsTrueAfter d.opening before (claim.NoneFree n.cell n.rate)
 
--- the notes once a desk answered a receipt, or that no channel of the cell is free at the rate
-abbrev pub notes_after : NotingState → ℕ → Rate → Option Receipt → List Note
-notes_after v cell rate (Some receipt) = v.notes
-notes_after v cell rate None = v.notes ++ record { place = length v.desk.history; cell = cell; rate = rate } ∷ []
+-- the cell and the rate of a channel that is asked for
+abbrev pub sought_by : Ask → Option (ℕ × Rate)
+sought_by (ask.Event e) = None
+sought_by (ask.Take c kind cell rate) = Some (cell, rate)
+sought_by (ask.Open c cell rate) = Some (cell, rate)
+sought_by (ask.Reserve c) = None
+
+-- the note that none was free, after so many entries
+abbrev pub note_at : ℕ → Option (ℕ × Rate) → List Note
+note_at place None = []
+note_at place (Some (cell, rate)) = record { place = place; cell = cell; rate = rate } ∷ []
+
+-- the notes once a desk answered a receipt, or that no channel is free for what was asked
+abbrev pub notes_after : NotingState → Ask → Option Receipt → List Note
+notes_after v a (Some receipt) = v.notes
+notes_after v a None = v.notes ++ note_at (length v.desk.history) (sought_by a)
 
 -- the notes of a place
 abbrev pub noted_at : ℕ → List Note → List Step

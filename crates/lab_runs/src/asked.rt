@@ -65,36 +65,34 @@ fn add_reports<A: Allocator + Copy>(
     }
 }
 
-/// The same where a call is on the channel. Nothing is said of it where there is nothing to report.
+/// Appends the reports of the mobile on a channel, if a call is on it. Nothing is said of it where there is nothing to report.
 fn add_reports_if_on<A: Allocator + Copy>(
     alloc: A,
-    book: &mut Book<A>,
+    book: &Book<A>,
     chan: ChanId,
     report: &Report,
     inputs: &mut Vec<Inbound<A>, A>,
 ) -> Result<(), AllocError>
-    ensures reports { OnOk result (said.AddsReportsIfOn book.old report.now chan
+    ensures { OnOk result (said.AddsReportsIfOn book.now report.now chan
         inputs.old.items inputs.new.items) }
-    ensures book { OnOk result (book.new ≡ book.old) }
 {
-    if is_on(book, chan)? {
+    if is_on(book, chan) {
         let _ = add_reports(alloc, book.site(), chan, report, inputs)?;
     }
     Ok(())
 }
 
-/// The same of the channel with this number, where there is one.
+/// Appends the reports of the mobile on the channel with this number, if there is one and a call is on it.
 fn add_reports_at<A: Allocator + Copy>(
     alloc: A,
-    book: &mut Book<A>,
+    book: &Book<A>,
     index: usize,
     report: &Report,
     inputs: &mut Vec<Inbound<A>, A>,
 ) -> Result<(), AllocError>
-    ensures reports { OnOk result (
-        said.AreReportsUpTo book.old report.now index inputs.old.items →
-        said.AreReportsUpTo book.old report.now (index + 1) inputs.new.items) }
-    ensures book { OnOk result (book.new ≡ book.old) }
+    ensures { OnOk result (
+        said.AreReportsUpTo book.now report.now index inputs.old.items →
+        said.AreReportsUpTo book.now report.now (index + 1) inputs.new.items) }
 {
     match book.site().chan_at(index) {
         Some(chan) => add_reports_if_on(alloc, book, chan, report, inputs),
@@ -105,11 +103,11 @@ fn add_reports_at<A: Allocator + Copy>(
 /// The reports of all mobiles that are on a channel, in the order of the channels.
 fn all_reports<A: Allocator + Copy>(
     alloc: A,
-    book: &mut Book<A>,
+    book: &Book<A>,
     report: &Report,
 ) -> Result<Vec<Inbound<A>, A>, AllocError>
-    ensures { IfOk result (λ inputs. said.AreReportsOfAll book.old report.now
-        (channels book.old.site) inputs.items) }
+    ensures { IfOk result (λ inputs. said.AreReportsOfAll book.now report.now
+        (channels book.now.site) inputs.items) }
 {
     let mut inputs = Vec::new(alloc);
     for index in 0..book.site().channels() {
@@ -118,7 +116,7 @@ fn all_reports<A: Allocator + Copy>(
     Ok(inputs)
 }
 
-/// The same, or that there are none.
+/// The reports of all mobiles that are on a channel, or that there are none.
 fn reports_of_all<A: Allocator + Copy>(
     alloc: A,
     desk: &Desk<A>,
@@ -129,7 +127,7 @@ fn reports_of_all<A: Allocator + Copy>(
     ensures unmet { IfOk result (λ found. OnErr found
         (said.AreReportsOf {A = A} desk.now.book Whom.All report.now [])) }
 {
-    let inputs = all_reports(alloc, &mut desk.book().copy()?, report)?;
+    let inputs = all_reports(alloc, desk.book(), report)?;
     if inputs.is_empty() {
         Ok(Err(Unmet::Nobody))
     } else {
@@ -149,7 +147,7 @@ fn reports_of_call<A: Allocator + Copy>(
     ensures unmet { IfOk result (λ found. OnErr found
         (said.AreReportsOf {A = A} desk.now.book (Whom.Call call) report.now [])) }
 {
-    let chan = match serving_channel(&mut desk.book().copy()?, call)? {
+    let chan = match serving_channel(desk.book(), call) {
         Ok(chan) => chan,
         Err(unmet) => return Ok(Err(unmet)),
     };
@@ -172,7 +170,7 @@ fn answer_of_call<A: Allocator + Copy>(
     ensures unmet { IfOk result (λ found. OnErr found
         ([] ≡ said.answers_at {A = A} answer (said.channel_of desk.now call answer))) }
 {
-    let chan = match channel_of(desk, call, answer)? {
+    let chan = match channel_of(desk, call, answer) {
         Ok(chan) => chan,
         Err(unmet) => return Ok(Err(unmet)),
     };

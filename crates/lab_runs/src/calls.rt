@@ -1,21 +1,21 @@
 //! The channels of calls, by what a desk has of them.
-ghost use Rattle.std.specs.Prelude.{◌≡◌, ◌<◌, ◌+◌, ◌-◌, ◌||◌, ℕ, true, false, drop, IfOk, IfSome, OnOk, Ok, None};
+ghost use Rattle.std.specs.Prelude.{◌≡◌, ◌<◌, ◌+◌, ◌-◌, ◌||◌, ℕ, true, drop, IfOk, IfSome};
 ghost use Rattle.std.specs.List.{list_any};
 ghost use Rattle.std.specs.Option.{option_or};
 ghost use Rattle.std.specs.Result.{result_ok};
 ghost use Rattle.channel_fsm.specs.declared.ChanId.{ChanId};
 ghost use Rattle.radio_book.specs.State.{record_of, state_of};
-ghost use Rattle.radio_tables.specs.States.{owner, channel_row};
+ghost use Rattle.radio_tables.specs.States.{channel_row};
 ghost use Rattle.lab_runs.specs.Asked as said;
 
-use crate::asked::Met;
 use bts_model::Answer;
-use channel_fsm::ChanId;
+use channel_fsm::{ChanId, ChanState};
 use radio_book::book::Book;
 use radio_book::event::{CallRecord, Event, Reply};
+use radio_book::facts::facts_of;
 use radio_desk::desk::Desk;
 use run_listeners::Unmet;
-use std::alloc::{AllocError, Allocator};
+use std::alloc::Allocator;
 
 /// Does nothing; its contract hands out that channels in use lie on the eight timeslots of a TRX (TS 45.002 clause 4.3.2).
 fn timeslots<A: Allocator + Copy>(book: &Book<A>)
@@ -28,42 +28,18 @@ fn timeslots<A: Allocator + Copy>(book: &Book<A>)
     let _ = (book.calls(), book.site().cells());
 }
 
-/// What the book has of a call.
-fn look<A: Allocator + Copy>(
-    book: &mut Book<A>,
-    call: u16,
-) -> Result<Option<CallRecord>, AllocError>
-    ensures known { IfOk result (λ known. known ≡ record_of book.old call) }
-    ensures book { OnOk result (book.new ≡ book.old) }
-{
-    match book.step(Event::Look(call))? {
-        Reply::Record(known, _) => Ok(Some(known)),
-        Reply::Done | Reply::Owned(_) | Reply::Refused(_) => Ok(None),
-    }
-}
-
-/// The call that a channel is in use for.
-fn owner<A: Allocator + Copy>(book: &mut Book<A>, chan: ChanId) -> Result<Option<u16>, AllocError>
-    ensures call { IfOk result (λ call. call ≡ owner (state_of book.old chan)) }
-    ensures book { OnOk result (book.new ≡ book.old) }
-{
-    match book.step(Event::Owner(chan))? {
-        Reply::Owned(call) => Ok(Some(call)),
-        Reply::Done | Reply::Record(..) | Reply::Refused(_) => Ok(None),
-    }
-}
-
 /// The channel that a call is on.
-pub(crate) fn serving_channel<A: Allocator + Copy>(book: &mut Book<A>, call: u16) -> Met<ChanId>
-    ensures channel { IfOk result
-        (λ found. result_ok found ≡ said.serving_channel (record_of book.old call)) }
-    ensures timeslot { IfOk result (λ found. IfOk found (λ chan. chan.tn < 8)) }
-    ensures book { OnOk result (book.new ≡ book.old) }
+pub(crate) fn serving_channel<A: Allocator + Copy>(
+    book: &Book<A>,
+    call: u16,
+) -> Result<ChanId, Unmet>
+    ensures channel { result_ok result ≡ said.serving_channel (record_of book.now call) }
+    ensures timeslot { IfOk result (λ chan. chan.tn < 8) }
 {
     timeslots(book);
-    match look(book, call)? {
-        Some(known) => Ok(known.serving.ok_or(Unmet::NoChannel(call))),
-        None => Ok(Err(Unmet::NoCall(call))),
+    match book.record(call) {
+        Some(known) => known.serving.ok_or(Unmet::NoChannel(call)),
+        None => Err(Unmet::NoCall(call)),
     }
 }
 
@@ -77,70 +53,39 @@ fn target_of(known: CallRecord) -> Option<ChanId>
     }
 }
 
-/// The same of a call.
-fn target_channel<A: Allocator + Copy>(book: &mut Book<A>, call: u16) -> Met<ChanId>
-    ensures channel { IfOk result
-        (λ found. result_ok found ≡ said.target_channel (record_of book.old call)) }
-    ensures timeslot { IfOk result (λ found. IfOk found (λ chan. chan.tn < 8)) }
-    ensures book { OnOk result (book.new ≡ book.old) }
+/// The channel that a call is to move to; where it isn't, the one that it is on.
+fn target_channel<A: Allocator + Copy>(book: &Book<A>, call: u16) -> Result<ChanId, Unmet>
+    ensures channel { result_ok result ≡ said.target_channel (record_of book.now call) }
+    ensures timeslot { IfOk result (λ chan. chan.tn < 8) }
 {
     timeslots(book);
-    match look(book, call)? {
-        Some(known) => Ok(target_of(known).ok_or(Unmet::NoChannel(call))),
-        None => Ok(Err(Unmet::NoCall(call))),
+    match book.record(call) {
+        Some(known) => target_of(known).ok_or(Unmet::NoChannel(call)),
+        None => Err(Unmet::NoCall(call)),
     }
 }
 
 /// Whether a call is on a channel.
-pub(crate) fn is_on<A: Allocator + Copy>(
-    book: &mut Book<A>,
-    chan: ChanId,
-) -> Result<bool, AllocError>
-    ensures on { IfOk result (λ on. on ≡ said.is_on book.old chan) }
-    ensures timeslot { result ≡ Ok true → chan.tn < 8 }
-    ensures book { OnOk result (book.new ≡ book.old) }
+pub(crate) fn is_on<A: Allocator + Copy>(book: &Book<A>, chan: ChanId) -> bool
+    ensures on { result ≡ said.is_on book.now chan }
+    ensures timeslot { result ≡ true → chan.tn < 8 }
 {
-    let Some(call) = owner(book, chan)? else {
-        return Ok(false);
+    let Some(call) = book.owner(chan) else {
+        return false;
     };
-    match serving_channel(book, call)? {
-        Ok(serving) => Ok(serving == chan),
-        Err(_) => Ok(false),
+    match serving_channel(book, call) {
+        Ok(serving) => serving == chan,
+        Err(_) => false,
     }
 }
 
-/// The call to which an event gives a channel, and that channel.
-fn given_by(event: Event) -> Option<(u16, ChanId)>
-    ensures { result ≡ said.given_by event }
-{
-    match event {
-        Event::Open(call, chan) => Some((call, chan)),
-        Event::Take(call, _, chan) => Some((call, chan)),
-        Event::Clear(_)
-        | Event::Look(_)
-        | Event::Reserve(..)
-        | Event::Activate(_)
-        | Event::Command(_)
-        | Event::Complete(_)
-        | Event::Undo(..)
-        | Event::Confirm(_)
-        | Event::Refuse(_)
-        | Event::Detect(_)
-        | Event::Released(_)
-        | Event::Owner(_)
-        | Event::Require(_)
-        | Event::Order(_)
-        | Event::Left(_) => None,
-    }
-}
-
-/// The same of an entry of a history, whose event may have been refused.
+/// The call to which an entry of a history gave a channel, and that channel. An event that was refused gave none.
 fn given_in(entry: &(Event, Reply)) -> Option<(u16, ChanId)>
     ensures { result ≡ said.given_in entry.now }
 {
     let (event, reply) = *entry;
     if reply.is_accepted() {
-        given_by(event)
+        facts_of(event).gives
     } else {
         None
     }
@@ -187,77 +132,58 @@ fn is_taken_from<A: Allocator + Copy>(desk: &Desk<A>, first: usize, chan: ChanId
     false
 }
 
-/// Whether the release of a channel is awaited, which isn't any more then.
-fn is_off<A: Allocator + Copy>(book: &mut Book<A>, chan: ChanId) -> Result<bool, AllocError>
-    ensures off { IfOk result (λ off. off ≡ (channel_row (state_of book.old chan)).off) }
-    ensures book { result ≡ Ok false → book.new ≡ book.old }
+/// Whether the release of a channel is awaited.
+fn is_off<A: Allocator + Copy>(book: &Book<A>, chan: ChanId) -> bool
+    ensures off { result ≡ (channel_row (state_of book.now chan)).off }
 {
-    match book.step(Event::Released(chan))? {
-        Reply::Done => Ok(true),
-        Reply::Record(..) | Reply::Owned(_) | Reply::Refused(_) => Ok(false),
+    match book.state(chan) {
+        ChanState::Off => true,
+        ChanState::Free | ChanState::Held(_) | ChanState::Pending(_) | ChanState::On(_) => false,
     }
 }
 
-/// Whether no entry from a place on gave a channel to a call, and its release is awaited, which isn't any more then.
-fn is_left<A: Allocator + Copy>(
-    desk: &Desk<A>,
-    book: &mut Book<A>,
-    place: usize,
-    chan: ChanId,
-) -> Result<bool, AllocError>
-    ensures left { IfOk result (λ left. left ≡ said.is_left book.old (drop place desk.now.history) chan) }
-    ensures book { result ≡ Ok false → book.new ≡ book.old }
+/// Whether no entry from a place on gave a channel to a call, and its release is awaited.
+fn is_left<A: Allocator + Copy>(desk: &Desk<A>, place: usize, chan: ChanId) -> bool
+    ensures left { result ≡ said.is_left desk.now.book (drop place desk.now.history) chan }
 {
-    if is_taken_from(desk, place, chan) {
-        Ok(false)
-    } else {
-        is_off(book, chan)
-    }
+    !is_taken_from(desk, place, chan) && is_off(desk.book(), chan)
 }
 
 /// The channel that the last entry before this place gave the call, where none from there on gave it to anyone, and its
-/// release is awaited. Once one is found the book isn't of use any more.
-fn released_before<A: Allocator + Copy>(
-    desk: &Desk<A>,
-    book: &mut Book<A>,
-    place: usize,
-    call: u16,
-) -> Result<Option<ChanId>, AllocError>
+/// release is awaited.
+fn released_before<A: Allocator + Copy>(desk: &Desk<A>, place: usize, call: u16) -> Option<ChanId>
     requires { 0 < place }
-    ensures channel { IfOk result (λ found.
-        said.released_in book.old call (drop (place - 1) desk.now.history) ≡
-        option_or (said.released_in book.old call (drop place desk.now.history)) found) }
-    ensures timeslot { IfOk result (λ found. IfSome found (λ chan. chan.tn < 8)) }
-    ensures book { result ≡ Ok None → book.new ≡ book.old }
+    ensures channel { said.released_in desk.now.book call (drop (place - 1) desk.now.history) ≡
+        option_or (said.released_in desk.now.book call (drop place desk.now.history)) result }
+    ensures timeslot { IfSome result (λ chan. chan.tn < 8) }
 {
     let Some(entry) = desk.entry(place - 1) else {
-        return Ok(None);
+        return None;
     };
     let Some(chan) = taken_by(entry, call) else {
-        return Ok(None);
+        return None;
     };
-    timeslots(book);
-    if is_left(desk, book, place, chan)? {
-        Ok(Some(chan))
+    timeslots(desk.book());
+    if is_left(desk, place, chan) {
+        Some(chan)
     } else {
-        Ok(None)
+        None
     }
 }
 
 /// The channel that a call got last of those that nobody got since, and whose release is awaited.
-fn released_channel<A: Allocator + Copy>(desk: &Desk<A>, call: u16) -> Met<ChanId>
-    ensures channel { IfOk result (λ found. result_ok found ≡ said.released_channel desk.now call) }
-    ensures timeslot { IfOk result (λ found. IfOk found (λ chan. chan.tn < 8)) }
+fn released_channel<A: Allocator + Copy>(desk: &Desk<A>, call: u16) -> Result<ChanId, Unmet>
+    ensures channel { result_ok result ≡ said.released_channel desk.now call }
+    ensures timeslot { IfOk result (λ chan. chan.tn < 8) }
 {
-    let mut book = desk.book().copy()?;
     let mut place = desk.len();
     while place > 0 {
-        if let Some(chan) = released_before(desk, &mut book, place, call)? {
-            return Ok(Ok(chan));
+        if let Some(chan) = released_before(desk, place, call) {
+            return Ok(chan);
         }
         place -= 1;
     }
-    Ok(Err(Unmet::NoRelease(call)))
+    Err(Unmet::NoRelease(call))
 }
 
 /// The channel of a call that an answer is about.
@@ -265,27 +191,28 @@ pub(crate) fn channel_of<A: Allocator + Copy>(
     desk: &Desk<A>,
     call: u16,
     answer: Answer,
-) -> Met<ChanId>
-    ensures channel { IfOk result (λ found. result_ok found ≡ said.channel_of desk.now call answer) }
-    ensures timeslot { IfOk result (λ found. IfOk found (λ chan. chan.tn < 8)) }
+) -> Result<ChanId, Unmet>
+    ensures channel { result_ok result ≡ said.channel_of desk.now call answer }
+    ensures timeslot { IfOk result (λ chan. chan.tn < 8) }
 {
     match answer {
         Answer::ReleaseAck => released_channel(desk, call),
-        Answer::Failure => serving_channel(&mut desk.book().copy()?, call),
+        Answer::Failure => serving_channel(desk.book(), call),
         Answer::ActivationAck | Answer::ActivationNack | Answer::Detection | Answer::Complete => {
-            target_channel(&mut desk.book().copy()?, call)
+            target_channel(desk.book(), call)
         }
     }
 }
 
 /// The channel whose mobile is a call's: the one that it is on; where it is on none, the one that it is to move to.
-pub(crate) fn mobile_channel<A: Allocator + Copy>(desk: &Desk<A>, call: u16) -> Met<ChanId>
-    ensures channel { IfOk result
-        (λ found. result_ok found ≡ said.mobile_channel desk.now.book call) }
+pub(crate) fn mobile_channel<A: Allocator + Copy>(
+    desk: &Desk<A>,
+    call: u16,
+) -> Result<ChanId, Unmet>
+    ensures channel { result_ok result ≡ said.mobile_channel desk.now.book call }
 {
-    let mut book = desk.book().copy()?;
-    match serving_channel(&mut book, call)? {
-        Ok(chan) => Ok(Ok(chan)),
-        Err(_) => target_channel(&mut book, call),
+    match serving_channel(desk.book(), call) {
+        Ok(chan) => Ok(chan),
+        Err(_) => target_channel(desk.book(), call),
     }
 }

@@ -53,7 +53,7 @@ fn over<A: Allocator + Copy>(
     Ok(Controller::new(alloc, view, site))
 }
 
-/// The same of the peer's site, where there is one.
+/// A controller of the peer's site that was given nothing yet, over an empty book, where there is such a site.
 fn fresh_peer<A: Allocator + Copy>(
     alloc: A,
     site: &Option<Arc<Site<A>, A>>,
@@ -120,6 +120,7 @@ impl<A: Allocator + Copy> Controllers<A> {
     /// The desk of the first begins anew with today's book. Where memory is refused, nothing changes.
     pub(crate) fn begin_anew(&mut self) -> Result<(), AllocError>
         ensures anew { OnOk result (IsAnewAt self.old.first self.new.first) }
+        ensures unchanged { OnErr result (self.new.first ≡ self.old.first) }
         ensures peer { self.new.peer ≡ self.old.peer }
     {
         self.first.begin_anew()
@@ -206,10 +207,10 @@ impl<A: Allocator + Copy> Controllers<A> {
     }
 
     /// The channel of the mobile of a call, as it is now; or why there is none.
-    pub(crate) fn mobile_channel(&self, side: Side, call: u16) -> Met<ChanId> {
+    pub(crate) fn mobile_channel(&self, side: Side, call: u16) -> Result<ChanId, Unmet> {
         match self.desk(side) {
             Some(desk) => mobile_channel(desk, call),
-            None => Ok(Err(Unmet::NoCall(call))),
+            None => Err(Unmet::NoCall(call)),
         }
     }
 

@@ -1,5 +1,5 @@
 //! The course of a script: one controller or two on one thread, and the simulators around them.
-ghost use Rattle.std.specs.Prelude.{◌≡◌, [], ◌∷◌, ◌||◌, true, false, is_some, map, option_map, IfOk, OnOk};
+ghost use Rattle.std.specs.Prelude.{◌≡◌, [], ◌∷◌, ◌||◌, true, false, is_some, map, option_map, IfOk, OnOk, OnErr};
 ghost use Rattle.lab_script.specs.Sides.{is_there};
 ghost use Rattle.lab_script.specs.Script.{AreThere, is_item_there};
 ghost use Rattle.lab_runs.specs.Turns.{listed, is_attach};
@@ -99,6 +99,7 @@ impl<A: Allocator + Copy> Course<A> {
     /// The desk of the first controller begins anew with today's book. Where memory is refused, no desk changes.
     pub fn begin_anew(&mut self) -> Result<(), AllocError>
         ensures anew { OnOk result (IsAnewAt self.old.controllers.first self.new.controllers.first) }
+        ensures unchanged { OnErr result (self.new.controllers.first ≡ self.old.controllers.first) }
         ensures peer { self.new.controllers.peer ≡ self.old.controllers.peer }
         ensures sim { has_simulators self.new ≡ has_simulators self.old }
     {
@@ -124,7 +125,7 @@ impl<A: Allocator + Copy> Course<A> {
         Ok(())
     }
 
-    /// The same of the mobile of a call, on the channel that this has now.
+    /// The mobile of a call, on the channel that this has now, behaves so from here on.
     fn set_mobile<L: Listener<A>>(
         &mut self,
         side: Side,
@@ -136,7 +137,7 @@ impl<A: Allocator + Copy> Course<A> {
         ensures went { OnOk result (Went [] self.old self.new) }
         ensures sim { OnOk result (has_simulators self.new ≡ has_simulators self.old) }
     {
-        match self.controllers.mobile_channel(side, call)? {
+        match self.controllers.mobile_channel(side, call) {
             Ok(chan) => {
                 let setting = Setting::of(side.number(), chan, Act::Mobile(habit));
                 self.set(setting, waiting)?;

@@ -1,16 +1,14 @@
 //! A view of a desk that notes where it found no free channel, for a trace.
 ghost use Rattle.std.specs.Prelude.{◌≡◌, ◌∷◌, ◌++◌, [], ℕ, List, All, drop, length, IfOk, IfErr, OnOk, OnErr, IfSome, MatchOption};
-ghost use Rattle.channel_fsm.specs.declared.ChanId.{ChanId};
-ghost use Rattle.timeslots.specs.Parts.{rate_of};
 ghost use Rattle.radio_desk.specs.Desk.{IsJudged, IsAnew};
-ghost use Rattle.ho_procedure.specs.Claims.{Entry, Claim, IsForeign, IsNoMemory, NoneFree, Chosen, UnknownReceipt, TakeMayBeRefused};
-ghost use Rattle.lab_runs.specs.Notes.{IsTrueNote, notes_after};
+ghost use Rattle.ho_procedure.specs.Claims.{Entry, Claim, IsForeign, IsNoMemory, UnknownReceipt, IsFor, SaysNone, SaysChosen, SaysRefused};
+ghost use Rattle.lab_runs.specs.Notes.{IsTrueNote, sought_by, notes_after};
 ghost use Rattle.lab_runs.specs.Turns.{history_of, says};
 
 use channel_fsm::Rate;
 use ho_procedure::solo::Solo;
 use ho_procedure::view::{DeskView, OwnDesk};
-use radio_book::event::{Event, Kind};
+use radio_book::ask::Ask;
 use radio_desk::desk::{Desk, DeskFault};
 use radio_desk::seat::Receipt;
 use std::alloc::{AllocError, Allocator, Global};
@@ -91,36 +89,29 @@ impl<A: Allocator + Copy> DeskView for Noting<A> {
 
     ghost judged = { λ noting receipt after. IsJudged noting.desk receipt after.desk × (after.notes ≡ noting.notes) };
 
-    fn judge(&mut self, event: Event) -> Result<Receipt, DeskFault> {
-        self.solo.judge(event)
-    }
-
     // The trait's clauses once more, and that each time that no channel is free is noted.
-    fn judge_take(
-        &mut self,
-        call: u16,
-        kind: Kind,
-        cell: u8,
-        rate: Rate,
-    ) -> Result<Option<Receipt>, DeskFault>
+    fn ask(&mut self, ask: Ask) -> Result<Option<Receipt>, DeskFault>
         ensures ok { IfOk result (λ answer. MatchOption answer
-            ((history_of self.new ≡ history_of self.old) × says self.old (history_of self.old) (NoneFree cell rate))
-            (λ r. ((x : ChanId) × (x.cell ≡ cell) × (rate_of x.sub ≡ rate) × (r.event ≡ Event.Take call kind x)) ×
-            says self.old (history_of self.old) (Chosen r.event) ×
+            ((history_of self.new ≡ history_of self.old) ×
+            SaysNone (says self.old (history_of self.old)) ask)
+            (λ r. IsFor ask r.event × SaysChosen (says self.old (history_of self.old)) ask r.event ×
             (history_of self.new ≡ history_of self.old ++ (r.event, r.reply) ∷ []))) }
-        ensures noted { IfOk result (λ answer. self.new.notes ≡ notes_after self.old cell rate answer) }
+        ensures noted { IfOk result (λ answer. self.new.notes ≡ notes_after self.old ask answer) }
         ensures receipt { IfOk result (λ answer. IfSome answer
             (λ r. IsJudged self.old.desk r self.new.desk × (self.new.notes ≡ self.old.notes))) }
         ensures err { OnErr result (history_of self.new ≡ history_of self.old) }
         ensures foreign { IfErr result (λ f. (place : ℕ) → IsForeign f place →
             says self.old (history_of self.old) (UnknownReceipt place)) }
         ensures memory { IfErr result (λ f. IsNoMemory f →
-            says self.old (history_of self.old) (TakeMayBeRefused cell rate)) }
+            SaysRefused (says self.old (history_of self.old)) ask) }
         ensures said { (es : List Entry) → (claim : Claim) →
             says self.new es claim → says self.old es claim }
     {
+        let Some((cell, rate)) = sought_by(ask) else {
+            return self.solo.ask(ask);
+        };
         self.notes.reserve(1)?;
-        match self.solo.judge_take(call, kind, cell, rate)? {
+        match self.solo.ask(ask)? {
             Some(receipt) => Ok(Some(receipt)),
             None => {
                 let place = self.solo.desk().len();
@@ -129,39 +120,15 @@ impl<A: Allocator + Copy> DeskView for Noting<A> {
             }
         }
     }
+}
 
-    // As `judge_take`: each time that no channel is free is noted.
-    fn judge_open(&mut self, call: u16, cell: u8, rate: Rate) -> Result<Option<Receipt>, DeskFault>
-        ensures ok { IfOk result (λ answer. MatchOption answer
-            ((history_of self.new ≡ history_of self.old) × says self.old (history_of self.old) (NoneFree cell rate))
-            (λ r. ((x : ChanId) × (x.cell ≡ cell) × (rate_of x.sub ≡ rate) × (r.event ≡ Event.Open call x)) ×
-            says self.old (history_of self.old) (Chosen r.event) ×
-            (history_of self.new ≡ history_of self.old ++ (r.event, r.reply) ∷ []))) }
-        ensures noted { IfOk result (λ answer. self.new.notes ≡ notes_after self.old cell rate answer) }
-        ensures receipt { IfOk result (λ answer. IfSome answer
-            (λ r. IsJudged self.old.desk r self.new.desk × (self.new.notes ≡ self.old.notes))) }
-        ensures err { OnErr result (history_of self.new ≡ history_of self.old) }
-        ensures foreign { IfErr result (λ f. (place : ℕ) → IsForeign f place →
-            says self.old (history_of self.old) (UnknownReceipt place)) }
-        ensures memory { IfErr result (λ f. IsNoMemory f →
-            says self.old (history_of self.old) (TakeMayBeRefused cell rate)) }
-        ensures said { (es : List Entry) → (claim : Claim) →
-            says self.new es claim → says self.old es claim }
-    {
-        self.notes.reserve(1)?;
-        match self.solo.judge_open(call, cell, rate)? {
-            Some(receipt) => Ok(Some(receipt)),
-            None => {
-                let place = self.solo.desk().len();
-                let note = Note { place, cell, rate };
-                self.notes.push_reserved(note);
-                Ok(None)
-            }
-        }
-    }
-
-    fn judge_reserve(&mut self, call: u16) -> Result<Receipt, DeskFault> {
-        self.solo.judge_reserve(call)
+/// The cell and the rate of a channel that is asked for.
+fn sought_by(ask: Ask) -> Option<(u8, Rate)>
+    ensures { result ≡ sought_by ask }
+{
+    match ask {
+        Ask::Take(_, _, cell, rate) | Ask::Open(_, cell, rate) => Some((cell, rate)),
+        Ask::Event(_) | Ask::Reserve(_) => None,
     }
 }
 

@@ -5,6 +5,7 @@ use channel_fsm::ChanId;
 use exchange::{Inbound, Line};
 use radio_book::book::Book;
 use radio_book::event::{Event, Reply};
+use radio_book::facts::{About, facts_of};
 use std::alloc::{AllocError, Allocator, Global};
 use std::collections::BTreeMap;
 use trace_text::trace::{Mark, Step, TraceLine};
@@ -16,58 +17,6 @@ struct Known<A: Allocator = Global> {
     current: Option<u16>,
     /// The call that had a channel last.
     channels: BTreeMap<ChanId, u16, A>,
-}
-
-/// What an event names.
-#[derive(Clone, Copy)]
-enum Named {
-    Call(u16),
-    Chan(ChanId),
-}
-
-/// What an event names: its call, or else its channel.
-fn named_by(event: Event) -> Named {
-    match event {
-        Event::Open(call, _)
-        | Event::Clear(call)
-        | Event::Look(call)
-        | Event::Take(call, _, _)
-        | Event::Reserve(call, _)
-        | Event::Activate(call)
-        | Event::Undo(call, _)
-        | Event::Command(call)
-        | Event::Complete(call)
-        | Event::Require(call)
-        | Event::Order(call)
-        | Event::Left(call) => Named::Call(call),
-        Event::Confirm(chan)
-        | Event::Refuse(chan)
-        | Event::Released(chan)
-        | Event::Detect(chan)
-        | Event::Owner(chan) => Named::Chan(chan),
-    }
-}
-
-/// The call for which an event takes a channel, if it is accepted, and the channel.
-pub(crate) fn taken_by(event: Event) -> Option<(u16, ChanId)> {
-    match event {
-        Event::Open(call, chan) | Event::Take(call, _, chan) => Some((call, chan)),
-        Event::Clear(_)
-        | Event::Look(_)
-        | Event::Reserve(..)
-        | Event::Activate(_)
-        | Event::Undo(..)
-        | Event::Command(_)
-        | Event::Complete(_)
-        | Event::Require(_)
-        | Event::Order(_)
-        | Event::Left(_)
-        | Event::Confirm(_)
-        | Event::Refuse(_)
-        | Event::Released(_)
-        | Event::Detect(_)
-        | Event::Owner(_) => None,
-    }
 }
 
 /// The call of what an operator asks for.
@@ -126,14 +75,15 @@ impl<A: Allocator + Copy> Known<A> {
 
     /// The call of an event. What it gives a call is kept.
     fn of_event(&mut self, event: Event, reply: Reply) -> Result<Option<u16>, AllocError> {
-        if let Some((call, chan)) = taken_by(event)
+        let facts = facts_of(event);
+        if let Some((call, chan)) = facts.gives
             && reply.is_accepted()
         {
             self.channels.insert(chan, call)?;
         }
-        match named_by(event) {
-            Named::Call(call) => Ok(Some(call)),
-            Named::Chan(chan) => match reply {
+        match facts.about {
+            About::Call(call) => Ok(Some(call)),
+            About::Channel(chan) => match reply {
                 Reply::Owned(call) => Ok(Some(call)),
                 Reply::Done | Reply::Record(..) | Reply::Refused(_) => Ok(self.had(chan)),
             },

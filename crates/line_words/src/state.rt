@@ -1,12 +1,12 @@
 //! What the book of a controller holds, as lines.
 //!
-//! A book answers questions about a call and about a channel. Which there may be is kept from the events that were asked, and
-//! found in the book with which they began.
-use crate::calls::taken_by;
-use crate::held::{call_in, record_of, state_of, states_in};
+//! A book is read by a call and by a channel. Which there may be is kept from the events that were asked, and found in the book
+//! with which they began.
+use crate::held::{call_in, states_in};
 use channel_fsm::{ChanId, ChanState};
 use radio_book::book::Book;
-use radio_book::event::{Attempt, Event, Reply, Timer};
+use radio_book::event::{Attempt, CallRecord, Event, Reply, Timer};
+use radio_book::facts::facts_of;
 use run_listeners::LabFault;
 use std::alloc::{AllocError, Allocator, Global};
 use std::collections::BTreeSet;
@@ -21,7 +21,7 @@ struct Named<A: Allocator + Copy = Global> {
     alloc: A,
 }
 
-/// The same of one controller or two.
+/// What the events of one controller or two named so far, and what their books had with which they began.
 #[derive(Drop)]
 pub struct StateLines<A: Allocator + Copy = Global> {
     first: Named<A>,
@@ -54,48 +54,69 @@ fn print_channel<W: Write>(
     writeln!(out, "{mark}state channel {chan} {word} call {call}")
 }
 
-/// Prints the reference and the timer of an attempt.
-fn print_attempt<W: Write>(out: &mut W, mark: Mark, call: u16, attempt: Attempt) -> io::Result<()> {
-    if let (Some(target), Some(number)) = (attempt.target, attempt.reference) {
-        let cell = target.cell;
-        writeln!(out, "{mark}state reference {cell} {number} call {call}")?;
-    }
-    match attempt.stage.timer() {
-        Some(timer) => writeln!(out, "{mark}state timer {} call {call}", timer_name(timer)),
-        None => Ok(()),
+/// Prints the reference of an attempt.
+fn print_reference<W: Write>(
+    out: &mut W,
+    mark: Mark,
+    call: u16,
+    attempt: Attempt,
+) -> io::Result<()> {
+    match (attempt.target, attempt.reference) {
+        (Some(target), Some(number)) => {
+            let cell = target.cell;
+            writeln!(out, "{mark}state reference {cell} {number} call {call}")
+        }
+        (None, _) | (Some(_), None) => Ok(()),
     }
 }
 
-/// Prints those of these channels that aren't free. The book may have some of them as free then ([`state_of`]).
+/// Prints those of these channels that aren't free.
 fn print_channels<A: Allocator + Copy, W: Write>(
     out: &mut W,
     mark: Mark,
     channels: &BTreeSet<ChanId, A>,
-    book: &mut Book<A>,
+    book: &Book<A>,
 ) -> Result<(), LabFault> {
     for chan in channels {
-        if let Some(state) = state_of(book, *chan)? {
-            print_channel(out, mark, *chan, state)?;
-        }
+        print_channel(out, mark, *chan, book.state(*chan))?;
     }
     Ok(())
 }
 
-/// Prints those of these calls that there are, each with its reference and its timer.
+/// The state of the channel that serves a call.
+fn serving_state<A: Allocator + Copy>(book: &Book<A>, found: CallRecord) -> Option<ChanState> {
+    Some(book.state(found.serving?))
+}
+
+/// Prints a call, its reference and its timer.
+fn print_call<A: Allocator + Copy, W: Write>(
+    out: &mut W,
+    mark: Mark,
+    book: &Book<A>,
+    call: u16,
+    found: CallRecord,
+) -> Result<(), LabFault> {
+    let text = ReplyText(Reply::Record(found, serving_state(book, found)));
+    writeln!(out, "{mark}state call {call} {text}")?;
+    if let Some(attempt) = found.attempt {
+        print_reference(out, mark, call, attempt)?;
+    }
+    if let Some(timer) = book.timer(call) {
+        writeln!(out, "{mark}state timer {} call {call}", timer_name(timer))?;
+    }
+    Ok(())
+}
+
+/// Prints those of these calls that there are.
 fn print_calls<A: Allocator + Copy, W: Write>(
     out: &mut W,
     mark: Mark,
     calls: &BTreeSet<u16, A>,
-    book: &mut Book<A>,
+    book: &Book<A>,
 ) -> Result<(), LabFault> {
     for call in calls {
-        let Some((record, state)) = record_of(book, *call)? else {
-            continue;
-        };
-        let text = ReplyText(Reply::Record(record, state));
-        writeln!(out, "{mark}state call {call} {text}")?;
-        if let Some(attempt) = record.attempt {
-            print_attempt(out, mark, *call, attempt)?;
+        if let Some(found) = book.record(*call) {
+            print_call(out, mark, book, *call, found)?;
         }
     }
     Ok(())
@@ -125,7 +146,7 @@ impl<A: Allocator + Copy> Named<A> {
 
     /// An event was asked.
     fn note(&mut self, event: Event) -> Result<(), AllocError> {
-        if let Some((call, chan)) = taken_by(event) {
+        if let Some((call, chan)) = facts_of(event).gives {
             self.calls.insert(call)?;
             self.channels.insert(chan)?;
         }
@@ -138,10 +159,8 @@ impl<A: Allocator + Copy> Named<A> {
         if usage.channels == 0 && usage.calls == 0 {
             return Ok(writeln!(out, "{mark}state empty")?);
         }
-        // questions are events, too
-        let mut copy = book.copy()?;
-        print_channels(out, mark, &self.channels, &mut copy)?;
-        print_calls(out, mark, &self.calls, &mut copy)
+        print_channels(out, mark, &self.channels, book)?;
+        print_calls(out, mark, &self.calls, book)
     }
 }
 

@@ -1,9 +1,12 @@
 -- What came of lines at a live controller. Ours, of no standard.
-use Rattle.std.specs.Prelude.{◌≡◌, ◌≢◌, ◌⊎◌, ◌++◌, ℕ, Bool, List, [], ◌∷◌, Option, Some, IfSome}
+use Rattle.std.specs.Prelude.{◌≡◌, ◌≢◌, ◌⊎◌, ◌<◌, ◌++◌, ℕ, Bool, List, [], ◌∷◌, Option, Some, IfSome, length}
 use Rattle.radio_book.specs.State.{State}
 use Rattle.decoded_lines.specs.Reading.{first_line, behind_line}
 use Rattle.lab_script.specs.declared.script.Item.{Item}
 use Rattle.run_listeners.specs.declared.turn.Turn.{Turn}
+use Rattle.radio_book.specs.declared.event.Event.{Event}
+use Rattle.radio_book.specs.declared.event.Reply.{Reply}
+use Rattle.lab_runs.specs.declared.course.Course.{Course}
 use Rattle.lab_runs.specs.Turns.{Position, Plays}
 use Rattle.lab_runs.specs.Course.{IsAnewAt, BeginsWith, positions_of, has_peer, has_simulators}
 use Rattle.live_runs.specs.declared.taking.Live.{Live}
@@ -12,6 +15,14 @@ use Rattle.live_runs.specs.Lines.{given_by, items_from, sim_by}
 -- a line attached the simulators
 abbrev pub has_sim : {A : Type 0} → Live A → Bool
 has_sim s = has_simulators s.course
+
+-- what the desk was asked since it began, or began anew
+abbrev pub history_of : {A : Type 0} → Course A → List (Event × Reply)
+history_of course = course.controllers.first.0.desk.history
+
+-- the history has fewer entries than these, or none
+abbrev pub IsShort : {A : Type 0} → ℕ → Course A → Type 0
+IsShort entries course = (length (history_of course) < entries) ⊎ (history_of course ≡ [])
 
 -- a controller is as it was, or its desk began anew
 abbrev pub StaysOrRests : Position → Position → Type 0

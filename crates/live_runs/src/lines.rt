@@ -1,11 +1,11 @@
 //! The lines of a reader, taken one by one to their end.
-ghost use Rattle.std.specs.Prelude.{◌≡◌, ◌∷◌, [], ◌&&◌, Ok, true, false, not, OnOk, IfOk, IfSome};
+ghost use Rattle.std.specs.Prelude.{◌≡◌, ◌⊎◌, ◌∷◌, [], ◌&&◌, Ok, true, false, not, OnOk, IfOk, IfSome};
 ghost use Rattle.std.specs.Io.KnownBytes.{IsAtEnd};
 ghost use Rattle.decoded_lines.specs.Reading.{Gives};
 ghost use Rattle.lab_runs.specs.Course.{has_peer};
 ghost use Rattle.lab_script.specs.Script.{is_sim};
 ghost use Rattle.live_runs.specs.Lines.{items_from, script_line};
-ghost use Rattle.live_runs.specs.Live.{Played, Takes, TakesFirst, TakesAll};
+ghost use Rattle.live_runs.specs.Live.{IsShort, Played, Takes, TakesFirst, TakesAll};
 
 use crate::fault::{LiveFault, unreadable_line};
 use crate::taking::Live;
@@ -185,7 +185,9 @@ fn take_or_answer<A: Allocator + Copy, L: LiveListener<A>, E: Write>(
 }
 
 /// With how many entries of its history the desk begins anew: with any, where the listener wants it.
-fn entries_of<A: Allocator + Copy, L: LiveListener<A>>(rules: Rules, listener: &L) -> usize {
+fn entries_of<A: Allocator + Copy, L: LiveListener<A>>(rules: Rules, listener: &L) -> usize
+    ensures entries { (result ≡ 0) ⊎ (result ≡ rules.entries) }
+{
     if listener.wants_anew() {
         0
     } else {
@@ -205,6 +207,7 @@ fn take_line<A: Allocator + Copy, L: LiveListener<A>, E: Write>(
 ) -> Result<(), LiveFault>
     requires alone { has_peer live.old.course ≡ false }
     ensures takes { OnOk result (Takes rules.sims line.now live.old live.new) }
+    ensures short { OnOk result (IsShort rules.entries live.new.course) }
 {
     take_or_answer(live, rules, number, line, listener, errors)?;
     listener.hear_line_end(errors)?;
@@ -240,6 +243,7 @@ fn take_next<A: Allocator + Copy, R: LineReader, L: LiveListener<A>, E: Write>(
     ensures alone { OnOk result (has_peer live.new.course ≡ false) }
     ensures taken { result ≡ Ok true → TakesFirst rules.sims (R.remaining reader.old)
         (R.remaining reader.new) live.old live.new }
+    ensures short { result ≡ Ok true → IsShort rules.entries live.new.course }
     ensures end { result ≡ Ok false → IsAtEnd (R.remaining reader.old) }
     ensures kept { result ≡ Ok false → live.new ≡ live.old }
 {

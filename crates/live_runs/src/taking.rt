@@ -1,10 +1,10 @@
 //! A live controller: it is given its lines one by one.
-ghost use Rattle.std.specs.Prelude.{◌≡◌, ◌∷◌, [], ◌||◌, true, false, IfOk, OnOk};
+ghost use Rattle.std.specs.Prelude.{◌≡◌, ◌↔◌, ◌≤◌, ◌∷◌, [], ◌||◌, true, false, IsTrue, length, IfOk, OnOk, OnErr};
 ghost use Rattle.lab_script.specs.Script.{is_item_there};
 ghost use Rattle.lab_runs.specs.Turns.{is_attach};
 ghost use Rattle.lab_runs.specs.Course.{BeginsWith, IsAnewAt, has_peer, has_simulators};
 ghost use Rattle.live_runs.specs.Lines.{can_be_read};
-ghost use Rattle.live_runs.specs.Live.{Goes, Rests, Takes};
+ghost use Rattle.live_runs.specs.Live.{Goes, Rests, Takes, history_of, IsShort};
 
 use crate::line::{Said, read_line};
 use lab_runs::course::Course;
@@ -35,9 +35,15 @@ impl<A: Allocator + Copy> Live<A> {
         })
     }
 
-    /// Its desk begins anew with today's book, where its history has so many entries. The answer is whether it did.
+    /// Its desk begins anew with today's book, where its history has so many entries, and only there. The answer is whether it
+    /// did. Memory is asked for a copy of the book; where it is refused, the history is as it was.
     pub fn rest(&mut self, entries: usize) -> Result<bool, AllocError>
         ensures rested { OnOk result (Rests self.old self.new) }
+        ensures when { IfOk result (λ anew. IsTrue anew ↔
+            (entries ≤ length (history_of self.old.course))) }
+        ensures refused { OnErr result ((entries ≤ length (history_of self.old.course)) ×
+            (history_of self.new.course ≡ history_of self.old.course)) }
+        ensures short { OnOk result (IsShort entries self.new.course) }
         ensures anew { result ≡ Ok true → IsAnewAt self.old.course.controllers.first self.new.course.controllers.first }
     {
         if self.course.controllers.first_entries() < entries {

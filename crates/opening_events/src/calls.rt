@@ -31,7 +31,7 @@ fn add_serving<A: Allocator>(
     }
 }
 
-/// The same where a channel serves it.
+/// A call comes to be served on a channel, where one serves it.
 fn add_served<A: Allocator>(
     events: &mut Vec<Event, A>,
     call: u16,

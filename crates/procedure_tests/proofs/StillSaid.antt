@@ -13,3 +13,12 @@ still_said opening opening' said log (Opening book) holds = said log (Opening bo
 still_said opening opening' said log (UnknownReceipt place) holds = tt
 still_said opening opening' said log (MayBeRefused e) holds = said log (MayBeRefused e) holds
 still_said opening opening' said log (TakeMayBeRefused cell rate) holds = said log (TakeMayBeRefused cell rate) holds
+
+-- and what is true is said
+pub says_too : (opening : State) (log : List Entry) (claim : Claim) → IsTrueAfter opening log claim → IsSaidAfter opening log claim
+says_too opening log (NoneFree cell rate) holds = holds
+says_too opening log (Chosen e) holds = holds
+says_too opening log (Opening book) holds = holds
+says_too opening log (UnknownReceipt place) holds = tt
+says_too opening log (MayBeRefused e) holds = holds
+says_too opening log (TakeMayBeRefused cell rate) holds = holds

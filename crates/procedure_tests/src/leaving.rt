@@ -1,10 +1,9 @@
 //! A view of a desk that doesn't know its seat any more.
 ghost use Rattle.std.specs.Prelude.{◌≡◌, IfErr};
 
-use channel_fsm::Rate;
 use ho_procedure::solo::Solo;
 use ho_procedure::view::DeskView;
-use radio_book::event::{Event, Kind};
+use radio_book::ask::Ask;
 use radio_desk::desk::{Desk, DeskFault};
 use radio_desk::seat::Receipt;
 use std::alloc::{Allocator, Global};
@@ -61,34 +60,8 @@ impl<A: Allocator + Copy> DeskView for Leaving<A> {
 
     ghost judged = { λ before receipt after. IsJudged before receipt after };
 
-    fn judge(&mut self, event: Event) -> Result<Receipt, DeskFault> {
+    fn ask(&mut self, ask: Ask) -> Result<Option<Receipt>, DeskFault> {
         self.sits()?;
-        self.solo.judge(event)
-    }
-
-    fn judge_take(
-        &mut self,
-        call: u16,
-        kind: Kind,
-        cell: u8,
-        rate: Rate,
-    ) -> Result<Option<Receipt>, DeskFault> {
-        self.sits()?;
-        self.solo.judge_take(call, kind, cell, rate)
-    }
-
-    fn judge_open(
-        &mut self,
-        call: u16,
-        cell: u8,
-        rate: Rate,
-    ) -> Result<Option<Receipt>, DeskFault> {
-        self.sits()?;
-        self.solo.judge_open(call, cell, rate)
-    }
-
-    fn judge_reserve(&mut self, call: u16) -> Result<Receipt, DeskFault> {
-        self.sits()?;
-        self.solo.judge_reserve(call)
+        self.solo.ask(ask)
     }
 }

@@ -13,7 +13,9 @@ use Rattle.radio_tables.specs.declared.kinds.Attempt.{Attempt}
 use Rattle.radio_tables.specs.declared.kinds.CallRecord.{CallRecord}
 use Rattle.dense_tables.specs.declared.references.Reference.{Reference}
 use Rattle.radio_book.specs.declared.event.Event.{Event}
-use Rattle.radio_book.specs.declared.event.Event.TheVariants as event
+use Rattle.radio_book.specs.declared.facts.About.{About}
+use Rattle.radio_book.specs.declared.facts.About.TheVariants.{Call, Channel}
+use Rattle.radio_book.specs.Facts.{event_facts}
 use Rattle.radio_book.specs.declared.event.Refusal.{Refusal}
 use Rattle.radio_book.specs.declared.event.Refusal.TheVariants.{ChannelBusy, RefBusy, Unexpected}
 use Rattle.radio_book.specs.declared.event.Reply.{Reply}
@@ -69,25 +71,14 @@ pub record Hides (removal : Change) (b : State) : Type 0 where
   pub others_reference : (k : Reference) (d : ℕ) → map.get b.references k ≡ Some d → Misses removal.call d → Misses removal.reference k
   pub others_timer : (d : ℕ) → Misses removal.call d → Misses removal.timer d
 
+-- what an event is about isn't gone
+abbrev pub IsAboutOther : Change → About → Type 0
+IsAboutOther removal (Call d) = Misses removal.call d
+IsAboutOther removal (Channel y) = Misses removal.channel y
+
 -- the event is by another call, or a station's on another channel
 abbrev pub IsOfOther : Change → Event → Type 0
-IsOfOther removal (event.Open d y) = Misses removal.call d
-IsOfOther removal (event.Clear d) = Misses removal.call d
-IsOfOther removal (event.Look d) = Misses removal.call d
-IsOfOther removal (event.Take d k y) = Misses removal.call d
-IsOfOther removal (event.Reserve d n) = Misses removal.call d
-IsOfOther removal (event.Activate d) = Misses removal.call d
-IsOfOther removal (event.Undo d why) = Misses removal.call d
-IsOfOther removal (event.Confirm y) = Misses removal.channel y
-IsOfOther removal (event.Refuse y) = Misses removal.channel y
-IsOfOther removal (event.Released y) = Misses removal.channel y
-IsOfOther removal (event.Command d) = Misses removal.call d
-IsOfOther removal (event.Complete d) = Misses removal.call d
-IsOfOther removal (event.Detect y) = Misses removal.channel y
-IsOfOther removal (event.Owner y) = Misses removal.channel y
-IsOfOther removal (event.Require d) = Misses removal.call d
-IsOfOther removal (event.Order d) = Misses removal.call d
-IsOfOther removal (event.Left d) = Misses removal.call d
+IsOfOther removal e = IsAboutOther removal (event_facts e).about
 
 -- the reply refuses for no channel and no reference that is gone
 pub record IsNotHeld (removal : Change) (reply : Reply) : Type 0 where

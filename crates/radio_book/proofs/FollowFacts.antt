@@ -7,8 +7,6 @@ use Rattle.std.specs.Option.{option_and_then}
 use Rattle.std.proofs.lemmas.Bool.{and_parts}
 use Rattle.std.proofs.lemmas.List.Elements.{All-head, All-tail, All-nil, All-cons}
 use Rattle.channel_fsm.specs.declared.ChanId.{ChanId}
-use Rattle.radio_book.specs.declared.event.Event.{Event}
-use Rattle.radio_book.specs.declared.event.Event.TheVariants as event
 use Rattle.radio_book.specs.declared.undone.StepAt.{StepAt}
 use Rattle.radio_book.specs.declared.following.Phase.{Phase}
 use Rattle.radio_book.specs.declared.following.Phase.TheVariants.{Open, Awaiting, Settled, Completed}
@@ -20,6 +18,7 @@ use Rattle.radio_book.specs.Found.{undone_by, ended_by, ends}
 use Rattle.radio_book.specs.Following.{holds, refused_in, number_with, ended_with, after, begun, others_from, held_from, at_last, is_settled_in, is_undone_in, leaves_off, settles}
 use Rattle.radio_book.proofs.UndoneFacts.{called, ends_by, ends_shown, ends_from, undoes_shown, undoes_ends, parts}
 use Rattle.radio_book.proofs.FoundFacts.{undoes_from}
+use Rattle.radio_book.proofs.FactsAgree.{undo_is_end}
 use Rattle.radio_book.proofs.StepFacts.{same_call}
 use Rattle.radio_book.proofs.OpenPhase.{is_kept, no_reference, number_there}
 
@@ -311,26 +310,6 @@ module _ (steps : List StepAt) (u : Undone) (is : IsUndoneIn steps u) where
       ∙ undone_ends u.call u.target shown u.tail
 
 -- AND BACK
-
--- an event that takes back an attempt ends it
-undo_is_end : (e : Event) → is_some (undone_by e) ≡ true → undone_by e ≡ ended_by e
-undo_is_end (event.Open d x) undoes = cc
-undo_is_end (event.Clear d) undoes = cc
-undo_is_end (event.Look d) undoes = cc
-undo_is_end (event.Take d k x) undoes = cc
-undo_is_end (event.Reserve d n) undoes = cc
-undo_is_end (event.Activate d) undoes = cc
-undo_is_end (event.Command d) undoes = cc
-undo_is_end (event.Complete d) undoes = cc
-undo_is_end (event.Undo d why) undoes = refl
-undo_is_end (event.Confirm x) undoes = cc
-undo_is_end (event.Refuse x) undoes = cc
-undo_is_end (event.Detect x) undoes = cc
-undo_is_end (event.Released x) undoes = cc
-undo_is_end (event.Owner x) undoes = cc
-undo_is_end (event.Require d) undoes = cc
-undo_is_end (event.Order d) undoes = cc
-undo_is_end (event.Left d) undoes = cc
 
 -- the steps fall into what came between, the undo, and what came after
 pub record UndoneBehind (c : ℕ) (ss : List StepAt) : Type 0 where

@@ -6,6 +6,8 @@ pub mod Frame
 pub mod SoundParts
 -- the steps behind the activation of a target, and those towards another controller, keep a book sound
 pub mod SoundHandover
+-- what the facts of an event say of one another
+pub mod FactsAgree
 -- each step keeps a book sound
 pub mod SoundSteps
 -- the stored inverses of an attempt, run last first, are its undo

@@ -20,7 +20,8 @@ use Rattle.radio_book.proofs.OthersPhases.{commutes_with_undone, leaves_open_att
 use Rattle.radio_book.proofs.EachAgrees.{each_agrees}
 use Rattle.radio_book.proofs.GoingOn.{own_steps_change_the_attempt}
 use Rattle.radio_book.proofs.SoundSteps.{sound_step}
-use Rattle.radio_book.proofs.StepFacts.{Runs, none_found, tested_call, same_call, tested_channel, same_channel, station_reserves_none, for_no_channel, for_no_reference}
+use Rattle.radio_book.proofs.FactsAgree.{station_reserves_none}
+use Rattle.radio_book.proofs.StepFacts.{Runs, none_found, tested_call, same_call, tested_channel, same_channel, for_no_channel, for_no_reference}
 
 -- the book without an attempt that is known
 pub without_is : (c : ℕ) (r : CallRecord) (a : Attempt) (b : State) → record_of b c ≡ Some r → r.attempt ≡ Some a → without_attempt_of c b ≡ apply (without_attempt c r a (map.get b.timers c)) b

@@ -12,7 +12,9 @@ use Rattle.radio_tables.specs.declared.kinds.Attempt.{Attempt}
 use Rattle.radio_tables.specs.declared.kinds.CallRecord.{CallRecord}
 use Rattle.dense_tables.specs.declared.references.Reference.{Reference}
 use Rattle.radio_book.specs.declared.event.Event.{Event}
-use Rattle.radio_book.specs.declared.event.Event.TheVariants as event
+use Rattle.radio_book.specs.declared.facts.About.{About}
+use Rattle.radio_book.specs.declared.facts.About.TheVariants.{Call, Channel}
+use Rattle.radio_book.specs.Facts.{event_facts}
 use Rattle.radio_book.specs.declared.event.Refusal.TheVariants.{ChannelBusy, RefBusy, Unexpected}
 use Rattle.radio_book.specs.declared.event.Reply.{Reply}
 use Rattle.radio_book.specs.declared.event.Reply.TheVariants.{Refused}
@@ -21,14 +23,14 @@ use Rattle.radio_book.specs.State.{State, apply, state_of, record_of}
 use Rattle.radio_book.specs.Table.{owner, Refuses, is_target, detect_by, resting_record, reference_held, reply_to, left_state, Outcome, Accepts, row, book_after, needs}
 use Rattle.radio_book.specs.Sound.{IsSound, target_in, reference_of, armed_in}
 use Rattle.radio_book.specs.Others.{IsHeldChannel, IsHeldReference, without_attempt, without_channel, CommutesWithUndone, UndoneIsRemoved, LeavesOpenAttempts, LeavesOffTargets}
-use Rattle.radio_book.specs.Kinds.{call_of, channel_of}
+use Rattle.radio_book.specs.Kinds.{call_in, channel_in, call_of, channel_of}
 use Rattle.radio_book.proofs.Rows.{detect_of, detect_at}
 use Rattle.radio_tables.proofs.KeyFacts.{chan_total, chan_exact, other_chan}
 use Rattle.radio_tables.proofs.MapFacts.{put_put_same, call_cases, record_same}
 use Rattle.radio_book.proofs.Frame.{Touches, aimed_is_owned, serving_is_on}
 use Rattle.radio_book.proofs.Changes.{Misses, AreApart, option_missed, record_kept, state_kept}
 use Rattle.radio_book.proofs.SoundSteps.{sound_step}
-use Rattle.radio_book.proofs.Agreement.{Avoids, Hides, IsOfOther, IsNotHeld, AgreesWithOthers, agrees_commute}
+use Rattle.radio_book.proofs.Agreement.{Avoids, Hides, IsAboutOther, IsOfOther, IsNotHeld, AgreesWithOthers, agrees_commute}
 
 -- a channel isn't the target of an attempt that aims at another, or at none
 other_target : (x : ChanId) (o : Option ChanId) → (o ≡ Some x → ⊥) → is_target x o ≡ false
@@ -98,23 +100,12 @@ module _ (c : ℕ) (r : CallRecord) (a : Attempt) (b : State) where
   on_other y on = open_missed y (λ aims. on y aims refl)
 
   pub open_others : (e : Event) → (call_of e ≡ Some c → ⊥) → ((t : ChanId) → a.target ≡ Some t → channel_of e ≡ Some t → ⊥) → IsOfOther (without_attempt c r a (map.get b.timers c)) e
-  open_others (event.Open d y) by on = by_other d by
-  open_others (event.Clear d) by on = by_other d by
-  open_others (event.Look d) by on = by_other d by
-  open_others (event.Take d k y) by on = by_other d by
-  open_others (event.Reserve d n) by on = by_other d by
-  open_others (event.Activate d) by on = by_other d by
-  open_others (event.Undo d why) by on = by_other d by
-  open_others (event.Confirm y) by on = on_other y on
-  open_others (event.Refuse y) by on = on_other y on
-  open_others (event.Released y) by on = on_other y on
-  open_others (event.Command d) by on = by_other d by
-  open_others (event.Complete d) by on = by_other d by
-  open_others (event.Detect y) by on = on_other y on
-  open_others (event.Owner y) by on = on_other y on
-  open_others (event.Require d) by on = by_other d by
-  open_others (event.Order d) by on = by_other d by
-  open_others (event.Left d) by on = by_other d by
+  open_others e = about_other (event_facts e).about
+    where
+      about_other : (about : About) → (call_in about ≡ Some c → ⊥) → ((t : ChanId) → a.target ≡ Some t → channel_in about ≡ Some t → ⊥)
+          → IsAboutOther (without_attempt c r a (map.get b.timers c)) about
+      about_other (Call d) by on = by_other d by
+      about_other (Channel y) by on = on_other y on
 
   pub open_not_held : (reply : Reply) → ((t : ChanId) → a.target ≡ Some t → IsHeldChannel t reply → ⊥) → (IsHeldReference (reference_held a.target a.reference) reply → ⊥) →
       IsNotHeld (without_attempt c r a (map.get b.timers c)) reply
@@ -137,23 +128,11 @@ off_hides t b off = record {
 }
 
 pub off_others : (t : ChanId) (e : Event) → (channel_of e ≡ Some t → ⊥) → IsOfOther (without_channel (Some t)) e
-off_others t (event.Open d y) on = λ touched. touched
-off_others t (event.Clear d) on = λ touched. touched
-off_others t (event.Look d) on = λ touched. touched
-off_others t (event.Take d k y) on = λ touched. touched
-off_others t (event.Reserve d n) on = λ touched. touched
-off_others t (event.Activate d) on = λ touched. touched
-off_others t (event.Undo d why) on = λ touched. touched
-off_others t (event.Confirm y) on = λ here. on (ap Some here)
-off_others t (event.Refuse y) on = λ here. on (ap Some here)
-off_others t (event.Released y) on = λ here. on (ap Some here)
-off_others t (event.Command d) on = λ touched. touched
-off_others t (event.Complete d) on = λ touched. touched
-off_others t (event.Detect y) on = λ here. on (ap Some here)
-off_others t (event.Owner y) on = λ here. on (ap Some here)
-off_others t (event.Require d) on = λ touched. touched
-off_others t (event.Order d) on = λ touched. touched
-off_others t (event.Left d) on = λ touched. touched
+off_others t e = about_other (event_facts e).about
+  where
+    about_other : (about : About) → (channel_in about ≡ Some t → ⊥) → IsAboutOther (without_channel (Some t)) about
+    about_other (Call d) on = λ touched. touched
+    about_other (Channel y) on = λ here. on (ap Some here)
 
 pub off_not_held : (t : ChanId) (reply : Reply) → (IsHeldChannel t reply → ⊥) → IsNotHeld (without_channel (Some t)) reply
 off_not_held t reply channel = record {

@@ -29,6 +29,7 @@ use Rattle.radio_book.specs.Table.{in_way, Outcome, Refuses, Accepts, needs, giv
 use Rattle.radio_book.specs.Sound.{IsSound}
 use Rattle.radio_book.specs.Kinds.{is_accepted}
 use Rattle.radio_book.specs.Run.{RefusedEventsChangeNothing}
+use Rattle.radio_book.specs.Facts.{event_facts}
 use Rattle.radio_book.specs.Owed.{owed, IsOwedWithin, most_raised, StepsRaise, is_owed, OwedEventsLower}
 use Rattle.radio_book.proofs.Rows.{clear_at, take_from, take_at, require_from, require_at, reserve_number, detect_of}
 use Rattle.radio_tables.proofs.KeyFacts.{chan_total, chan_exact}
@@ -381,20 +382,10 @@ unfolding owed
 owed_within b = omega (arith, total-le-len open_in b.calls open_at_most)
 
 pub two_at_most : (e : Event) → most_raised e ≤ 2
-two_at_most (event.Open c x) = omega arith
-two_at_most (event.Take c k x) = omega arith
-two_at_most (event.Require c) = omega arith
-two_at_most (event.Clear c) = omega arith
-two_at_most (event.Look c) = omega arith
-two_at_most (event.Reserve c n) = omega arith
-two_at_most (event.Activate c) = omega arith
-two_at_most (event.Command c) = omega arith
-two_at_most (event.Complete c) = omega arith
-two_at_most (event.Undo c why) = omega arith
-two_at_most (event.Confirm x) = omega arith
-two_at_most (event.Refuse x) = omega arith
-two_at_most (event.Detect x) = omega arith
-two_at_most (event.Released x) = omega arith
-two_at_most (event.Owner x) = omega arith
-two_at_most (event.Order c) = omega arith
-two_at_most (event.Left c) = omega arith
+two_at_most e = by (is_some (event_facts e).gives) (is_some (event_facts e).opens)
+  where
+    by : (p q : Bool) → cond p 1 0 + cond q 1 0 ≤ 2
+    by true true = omega arith
+    by true false = omega arith
+    by false true = omega arith
+    by false false = omega arith

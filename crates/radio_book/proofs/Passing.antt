@@ -36,6 +36,7 @@ use Rattle.radio_book.proofs.Frame.{same_some}
 use Rattle.radio_book.proofs.SoundSteps.{sound_step}
 use Rattle.radio_book.proofs.OthersPhases.{commutes_with_undone, leaves_off_targets}
 use Rattle.radio_book.proofs.EachAgrees.{each_agrees}
+use Rattle.radio_book.proofs.FactsAgree.{ends_by_call, released_on, one_or_other}
 use Rattle.radio_book.proofs.StepFacts.{tested_call, same_call, tested_channel, same_channel, release_of, for_no_channel}
 use Rattle.radio_book.proofs.UndoneFacts.{called, opens_shown, ends_from, ends_shown}
 use Rattle.radio_book.proofs.OpenPhase.{is_kept, left_is_own, own_goes, own_reserves, kept_alike, without_is}
@@ -93,30 +94,6 @@ pub record Goes (p : Followed) (b : State) (s : StepAt) : Type 0 where
   pub still : IsIn (after p s) (step b s.event)
   pub gone : IsGone s.event (without p b)
   pub opens_none : (d : ℕ) (o : Option ChanId) → Opens d o s.event → IsTrue (is_accepted s.reply) → ⊥
-
--- AN EVENT IS BY A CALL OR ON A CHANNEL
-
-one_or_other : (e : Event) (c : ℕ) (x : ChanId) → call_of e ≡ Some c → channel_of e ≡ Some x → ⊥
-one_or_other (event.Open d y) c x by on = cc
-one_or_other (event.Clear d) c x by on = cc
-one_or_other (event.Look d) c x by on = cc
-one_or_other (event.Take d k y) c x by on = cc
-one_or_other (event.Reserve d n) c x by on = cc
-one_or_other (event.Activate d) c x by on = cc
-one_or_other (event.Command d) c x by on = cc
-one_or_other (event.Complete d) c x by on = cc
-one_or_other (event.Undo d why) c x by on = cc
-one_or_other (event.Confirm y) c x by on = cc
-one_or_other (event.Refuse y) c x by on = cc
-one_or_other (event.Detect y) c x by on = cc
-one_or_other (event.Released y) c x by on = cc
-one_or_other (event.Owner y) c x by on = cc
-one_or_other (event.Require d) c x by on = cc
-one_or_other (event.Order d) c x by on = cc
-one_or_other (event.Left d) c x by on = cc
-
-released_on : (e : Event) (x : ChanId) → released_by e ≡ Some x → channel_of e ≡ Some x
-released_on e x is = ap channel_of (release_of e x is)
 
 -- OPENINGS
 
@@ -459,26 +436,6 @@ passes p b s sound here answered = by p.phase here
     by Completed never proper free = absurd never
 
 -- A STEP THAT WAS TAKEN OUT
-
--- who ends an attempt is asked for its call
-ends_by_call : (c : ℕ) (e : Event) → ended_by e ≡ Some c → call_of e ≡ Some c
-ends_by_call c (event.Open d x) is = cc
-ends_by_call c (event.Clear d) is = cc
-ends_by_call c (event.Look d) is = cc
-ends_by_call c (event.Take d k x) is = cc
-ends_by_call c (event.Reserve d n) is = cc
-ends_by_call c (event.Activate d) is = cc
-ends_by_call c (event.Command d) is = cc
-ends_by_call c (event.Complete d) is = is
-ends_by_call c (event.Undo d why) is = is
-ends_by_call c (event.Confirm x) is = cc
-ends_by_call c (event.Refuse x) is = cc
-ends_by_call c (event.Detect x) is = cc
-ends_by_call c (event.Released x) is = cc
-ends_by_call c (event.Owner x) is = cc
-ends_by_call c (event.Require d) is = cc
-ends_by_call c (event.Order d) is = cc
-ends_by_call c (event.Left d) is = is
 
 -- a step that isn't by its call leaves an open attempt as far as it is
 not_its_own : (c : ℕ) (target : Option ChanId) (number : Option ℕ) (s : StepAt) → is_by_call c s ≡ false → after (in_phase c target (Open number)) s ≡ in_phase c target (Open number)

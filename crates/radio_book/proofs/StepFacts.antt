@@ -11,7 +11,7 @@ use Rattle.radio_book.specs.State.{State}
 use Rattle.radio_book.specs.Table.{step, reply_to}
 use Rattle.radio_book.specs.Sound.{IsSound}
 use Rattle.radio_book.specs.Run.{run_book, run_replies}
-use Rattle.radio_book.specs.Kinds.{channel_of, released_by, number_of, refusal_of}
+use Rattle.radio_book.specs.Kinds.{released_by, refusal_of}
 use Rattle.radio_book.specs.Others.{IsHeldChannel, IsHeldReference}
 use Rattle.radio_book.specs.Undone.{steps_from, events_of, replies_of, is_call, is_channel, is_reference, comes_from}
 use Rattle.radio_tables.proofs.KeyFacts.{same_chan_itself, one_chan}
@@ -72,26 +72,6 @@ same_channel target o t aims same = ap (λ p. is_channel p o) aims ∙ ap (is_ch
 
 same_reference : (k : Reference) → is_reference (Some k) (Some (record { cell = k.cell; number = k.number })) ≡ true
 same_reference k = and_from _ _ (eq-eqb k.cell k.cell refl) (eq-eqb k.number k.number refl)
-
--- a station's event reserves no number
-pub station_reserves_none : (e : Event) (x : ChanId) → channel_of e ≡ Some x → number_of e ≡ None
-station_reserves_none (event.Open d y) x on = refl
-station_reserves_none (event.Clear d) x on = refl
-station_reserves_none (event.Look d) x on = refl
-station_reserves_none (event.Take d k y) x on = refl
-station_reserves_none (event.Reserve d n) x on = cc
-station_reserves_none (event.Activate d) x on = refl
-station_reserves_none (event.Command d) x on = refl
-station_reserves_none (event.Complete d) x on = refl
-station_reserves_none (event.Undo d why) x on = refl
-station_reserves_none (event.Confirm y) x on = refl
-station_reserves_none (event.Refuse y) x on = refl
-station_reserves_none (event.Detect y) x on = refl
-station_reserves_none (event.Released y) x on = refl
-station_reserves_none (event.Owner y) x on = refl
-station_reserves_none (event.Require d) x on = refl
-station_reserves_none (event.Order d) x on = refl
-station_reserves_none (event.Left d) x on = refl
 
 -- an event that acknowledges a release
 pub release_of : (e : Event) (x : ChanId) → released_by e ≡ Some x → e ≡ event.Released x

@@ -8,56 +8,33 @@ use Rattle.radio_book.specs.declared.event.Event.TheVariants as event
 use Rattle.radio_book.specs.declared.event.Refusal.{Refusal}
 use Rattle.radio_book.specs.declared.event.Reply.{Reply}
 use Rattle.radio_book.specs.declared.event.Reply.TheVariants.{Done, Record, Owned, Refused}
+use Rattle.radio_book.specs.declared.facts.About.{About}
+use Rattle.radio_book.specs.declared.facts.About.TheVariants.{Call, Channel}
+use Rattle.radio_book.specs.Facts.{event_facts}
 
-pub record EventRow : Type 0 where
-  -- the call that the event is asked for; a station's event is asked for none
-  pub call : Option ℕ
-  -- the channel that a station's event is about; an event that is asked for a call is about none
-  pub channel : Option ChanId
-  -- the channel whose release it acknowledges
-  pub released : Option ChanId
-  -- the number of the reference that it reserves
-  pub number : Option ℕ
-
--- an event that is asked for a call
-abbrev pub by_call : ℕ → EventRow
-by_call c = record { call = Some c; channel = None; released = None; number = None }
-
--- a station's event
-abbrev pub by_station : ChanId → EventRow
-by_station x = record { call = None; channel = Some x; released = None; number = None }
-
--- the table of events: what each says
-abbrev pub event_row : Event → EventRow
-event_row (event.Open c x) = by_call c
-event_row (event.Clear c) = by_call c
-event_row (event.Look c) = by_call c
-event_row (event.Take c k x) = by_call c
-event_row (event.Reserve c n) = record (by_call c) { number = Some n }
-event_row (event.Activate c) = by_call c
-event_row (event.Command c) = by_call c
-event_row (event.Complete c) = by_call c
-event_row (event.Undo c why) = by_call c
-event_row (event.Confirm x) = by_station x
-event_row (event.Refuse x) = by_station x
-event_row (event.Detect x) = by_station x
-event_row (event.Released x) = record (by_station x) { released = Some x }
-event_row (event.Owner x) = by_station x
-event_row (event.Require c) = by_call c
-event_row (event.Order c) = by_call c
-event_row (event.Left c) = by_call c
+-- the call that an event is asked for; a station's event is asked for none
+abbrev pub call_in : About → Option ℕ
+call_in (Call c) = Some c
+call_in (Channel x) = None
 
 abbrev pub call_of : Event → Option ℕ
-call_of e = (event_row e).call
+call_of e = call_in (event_facts e).about
+
+-- the channel that a station's event is about; an event that is asked for a call is about none
+abbrev pub channel_in : About → Option ChanId
+channel_in (Call c) = None
+channel_in (Channel x) = Some x
 
 abbrev pub channel_of : Event → Option ChanId
-channel_of e = (event_row e).channel
+channel_of e = channel_in (event_facts e).about
 
+-- the channel whose release it acknowledges
 abbrev pub released_by : Event → Option ChanId
-released_by e = (event_row e).released
+released_by e = (event_facts e).releases
 
+-- the number of the reference that it reserves
 abbrev pub number_of : Event → Option ℕ
-number_of e = (event_row e).number
+number_of e = (event_facts e).reserves
 
 -- why an event was refused; an accepted one wasn't
 abbrev pub refusal_of : Reply → Option Refusal

@@ -1,11 +1,13 @@
 pub mod State
 pub mod Channels
+pub mod Facts
 pub mod Table
 pub mod Sound
 pub mod Journal
 pub mod PutBack
 pub mod Run
 pub mod Choice
+pub mod Asks
 pub mod Others
 pub mod Kinds
 pub mod Owed

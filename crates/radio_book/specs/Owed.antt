@@ -1,11 +1,11 @@
 -- What is owed in a book: the events that are still to come of what is open in it. Ours, of no standard.
-use Rattle.std.specs.Prelude.{ℕ, ◌+◌, ◌≤◌, Bool, true, false, IsTrue, count_by, is_some}
+use Rattle.std.specs.Prelude.{ℕ, ◌+◌, ◌≤◌, ◌||◌, Bool, cond, IsTrue, count_by, is_some}
 use Rattle.std.specs.FinMap as map
 use Rattle.radio_book.specs.declared.event.Event.{Event}
-use Rattle.radio_book.specs.declared.event.Event.TheVariants as event
 use Rattle.radio_book.specs.State.{State}
 use Rattle.radio_book.specs.Table.{step, reply_to}
 use Rattle.radio_book.specs.Sound.{IsSound}
+use Rattle.radio_book.specs.Facts.{event_facts}
 use Rattle.radio_book.specs.Kinds.{is_accepted}
 
 -- how many attempts are open
@@ -26,23 +26,7 @@ IsOwedWithin = (b : State) → owed b ≤ calls_and_channels b
 
 -- by how much an event may raise what is owed: by a channel that it takes, and by an attempt that it opens
 abbrev pub most_raised : Event → ℕ
-most_raised (event.Open c x) = 1
-most_raised (event.Take c k x) = 2
-most_raised (event.Require c) = 1
-most_raised (event.Clear c) = 0
-most_raised (event.Look c) = 0
-most_raised (event.Reserve c n) = 0
-most_raised (event.Activate c) = 0
-most_raised (event.Command c) = 0
-most_raised (event.Complete c) = 0
-most_raised (event.Undo c why) = 0
-most_raised (event.Confirm x) = 0
-most_raised (event.Refuse x) = 0
-most_raised (event.Detect x) = 0
-most_raised (event.Released x) = 0
-most_raised (event.Owner x) = 0
-most_raised (event.Order c) = 0
-most_raised (event.Left c) = 0
+most_raised e = cond (is_some (event_facts e).gives) 1 0 + cond (is_some (event_facts e).opens) 1 0
 
 -- Every event raises it by no more than that.
 abbrev pub StepsRaise : Type 0
@@ -50,23 +34,7 @@ StepsRaise = (b : State) (e : Event) → IsSound b → owed (step b e) ≤ owed 
 
 -- the event is one that is owed: an attempt is taken back, or the release of a channel is acknowledged
 abbrev pub is_owed : Event → Bool
-is_owed (event.Undo c why) = true
-is_owed (event.Released x) = true
-is_owed (event.Open c x) = false
-is_owed (event.Clear c) = false
-is_owed (event.Look c) = false
-is_owed (event.Take c k x) = false
-is_owed (event.Reserve c n) = false
-is_owed (event.Activate c) = false
-is_owed (event.Command c) = false
-is_owed (event.Complete c) = false
-is_owed (event.Confirm x) = false
-is_owed (event.Refuse x) = false
-is_owed (event.Detect x) = false
-is_owed (event.Owner x) = false
-is_owed (event.Require c) = false
-is_owed (event.Order c) = false
-is_owed (event.Left c) = false
+is_owed e = is_some (event_facts e).undoes || is_some (event_facts e).releases
 
 -- Such an event, once accepted, lowers it.
 abbrev pub OwedEventsLower : Type 0

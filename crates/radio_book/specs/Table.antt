@@ -28,10 +28,13 @@ use Rattle.radio_book.specs.declared.event.Refusal.{Refusal}
 use Rattle.radio_book.specs.declared.event.Refusal.TheVariants.{NoCall, CallExists, WrongPhase, NoChannel, SameCell, ChannelBusy, RefBusy, Unexpected, NotArmed}
 use Rattle.radio_book.specs.declared.event.Reply.{Reply}
 use Rattle.radio_book.specs.declared.event.Reply.TheVariants.{Done, Record, Owned, Refused}
+use Rattle.radio_book.specs.declared.facts.Growth.{Growth}
+use Rattle.radio_book.specs.declared.facts.Growth.TheVariants.{OfCalls, InPlace}
 use Rattle.cell_table.specs.Site.{is_traffic}
 use Rattle.radio_tables.specs.Maps.{Entry, AddsKey}
 use Rattle.radio_tables.specs.Stages.{Allows, stage_allows}
 use Rattle.radio_book.specs.State.{State, Change, apply, state_of, record_of}
+use Rattle.radio_book.specs.Facts.{event_facts}
 pub use Rattle.radio_tables.specs.Keys.{same_chan}
 pub use Rattle.radio_tables.specs.Choice.{in_way}
 pub use Rattle.radio_tables.specs.States.{ChannelRow, channel_row, owner, left_state}
@@ -319,44 +322,22 @@ NeedsRoom b (Refuses refusal) = ⊥
 NeedsRoom b (Accepts change reply) =
     AddsKey b.channels change.channel ⊎ AddsKey b.calls change.call ⊎ AddsKey b.references change.reference
 
+-- something grows by an event
+abbrev pub Grows : Option Growth → Type 0
+Grows None = ⊥
+Grows (Some growth) = Unit {0}
+
 -- the kinds of event that may put a key: they begin a call or an attempt, or reserve a reference
 abbrev pub MayNeedRoom : Event → Type 0
-MayNeedRoom (event.Open c x) = Unit {0}
-MayNeedRoom (event.Take c k x) = Unit {0}
-MayNeedRoom (event.Reserve c n) = Unit {0}
-MayNeedRoom (event.Clear c) = ⊥
-MayNeedRoom (event.Look c) = ⊥
-MayNeedRoom (event.Activate c) = ⊥
-MayNeedRoom (event.Command c) = ⊥
-MayNeedRoom (event.Complete c) = ⊥
-MayNeedRoom (event.Undo c why) = ⊥
-MayNeedRoom (event.Confirm x) = ⊥
-MayNeedRoom (event.Refuse x) = ⊥
-MayNeedRoom (event.Detect x) = ⊥
-MayNeedRoom (event.Released x) = ⊥
-MayNeedRoom (event.Owner x) = ⊥
-MayNeedRoom (event.Require c) = ⊥
-MayNeedRoom (event.Order c) = ⊥
-MayNeedRoom (event.Left c) = ⊥
+MayNeedRoom e = Grows (event_facts e).grows
+
+-- memory may be refused where this grows
+abbrev pub MayLackMemory : Bool → Option Growth → Type 0
+MayLackMemory in_place None = ⊥
+MayLackMemory in_place (Some OfCalls) = Unit {0}
+MayLackMemory in_place (Some InPlace) = in_place ≡ true
 
 -- Memory may be refused to an event: to one that begins a call, and where a change in place may be refused it, to one that
 -- takes a channel or a reference for a call that is there.
 abbrev pub MayBeRefused : Bool → Event → Type 0
-MayBeRefused in_place (event.Open c x) = Unit {0}
-MayBeRefused in_place (event.Take c kind.Internal x) = in_place ≡ true
-MayBeRefused in_place (event.Take c kind.Incoming x) = Unit {0}
-MayBeRefused in_place (event.Reserve c n) = in_place ≡ true
-MayBeRefused in_place (event.Clear c) = ⊥
-MayBeRefused in_place (event.Look c) = ⊥
-MayBeRefused in_place (event.Activate c) = ⊥
-MayBeRefused in_place (event.Command c) = ⊥
-MayBeRefused in_place (event.Complete c) = ⊥
-MayBeRefused in_place (event.Undo c why) = ⊥
-MayBeRefused in_place (event.Confirm x) = ⊥
-MayBeRefused in_place (event.Refuse x) = ⊥
-MayBeRefused in_place (event.Detect x) = ⊥
-MayBeRefused in_place (event.Released x) = ⊥
-MayBeRefused in_place (event.Owner x) = ⊥
-MayBeRefused in_place (event.Require c) = ⊥
-MayBeRefused in_place (event.Order c) = ⊥
-MayBeRefused in_place (event.Left c) = ⊥
+MayBeRefused in_place e = MayLackMemory in_place (event_facts e).grows

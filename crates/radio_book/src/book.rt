@@ -12,8 +12,10 @@ ghost use Rattle.radio_book.specs.declared.event.Kind.{Kind};
 ghost use Rattle.radio_book.specs.declared.event.Why.{Why};
 ghost use Rattle.radio_book.specs.Journal.{journal_of, run_back};
 ghost use Rattle.radio_book.specs.Table.{owner, step, reply_to, row, NeedsRoom, MayNeedRoom, MayBeRefused};
+ghost use Rattle.radio_book.specs.Asks.{IsAsked, NoneFor, MayLackMemory};
 ghost use Rattle.radio_book.specs.Choice.{IsFreeAt, NoneFree, NoneFreeAt, TakesFree, OpensFree, ReservesFree, IsFreeCount};
 
+use crate::ask::Ask;
 use crate::event::{CallRecord, Event, Kind, Reply, Timer};
 use crate::records::Records;
 use cell_table::Site;
@@ -99,7 +101,7 @@ impl<A: Allocator + Copy> Book<A> {
         self.records.tables().site()
     }
 
-    /// The same book again. Memory is asked for.
+    /// A copy. Memory is asked for.
     pub fn copy(&self) -> Result<Book<A>, AllocError>
         ensures copy { IfOk result (λ book. book ≡ self.now) }
     {
@@ -204,6 +206,49 @@ impl<A: Allocator + Copy> Book<A> {
         self.records.choose_channel(cell, rate)
     }
 
+    /// The event that is asked: the one that is named, or one on what is free. `None` says that no channel is free, as in a
+    /// cell that the site lacks. Any free channel meets the contract, and any free number; this body answers the channel of the
+    /// lowest TRX, then timeslot, then half, and the lowest number.
+    pub fn choose(&self, ask: Ask) -> Option<Event>
+        ensures event { MatchOption result (NoneFor self.now ask) (λ e. IsAsked self.now ask e) }
+    {
+        match ask {
+            Ask::Event(event) => Some(event),
+            Ask::Take(call, kind, cell, rate) => {
+                let chan = self.records.choose_channel(cell, rate)?;
+                Some(Event::Take(call, kind, chan))
+            }
+            Ask::Open(call, cell, rate) => {
+                let chan = self.records.choose_channel(cell, rate)?;
+                Some(Event::Open(call, chan))
+            }
+            Ask::Reserve(call) => Some(Event::Reserve(call, self.records.choose_number(call))),
+        }
+    }
+
+    /// Judges the event that is asked, as [`Book::choose`] chooses it and [`Book::step`] judges it: the event, with its answer.
+    /// `None`, just where no channel is free, changes nothing.
+    pub fn ask(&mut self, ask: Ask) -> Result<Option<(Event, Reply)>, AllocError>
+        ensures none { (result ≡ Ok None) ↔ NoneFor self.old ask }
+        ensures kept { result ≡ Ok None → self.new ≡ self.old }
+        ensures event { IfOk result (λ chosen. IfSome chosen
+            (λ asked. IsAsked self.old ask asked.0)) }
+        ensures reply { IfOk result (λ chosen. IfSome chosen
+            (λ asked. asked.1 ≡ reply_to self.old asked.0)) }
+        ensures book { IfOk result (λ chosen. IfSome chosen
+            (λ asked. self.new ≡ step self.old asked.0)) }
+        ensures unchanged { OnErr result (self.new ≡ self.old) }
+        ensures memory { OnErr result ((e : Event) × IsAsked self.old ask e ×
+            NeedsRoom self.old (row self.old e)) }
+        ensures begins { OnErr result (MayLackMemory ask) }
+    {
+        let Some(event) = self.choose(ask) else {
+            return Ok(None);
+        };
+        let reply = self.step(event)?;
+        Ok(Some((event, reply)))
+    }
+
     /// A `Take` of some free channel of the cell at a rate, judged as by [`Book::step`], with its answer. `None` says that
     /// there is none, as in a cell that the site lacks. Memory is asked for only where the `Take` is of kind `Incoming` and
     /// is accepted. Any free channel meets the contract; this body takes that of the lowest TRX, then timeslot, then half.
@@ -227,12 +272,7 @@ impl<A: Allocator + Copy> Book<A> {
             NeedsRoom self.old (row self.old e)) }
         ensures begins { OnErr result (kind ≡ Kind.Incoming) }
     {
-        let Some(x) = self.records.choose_channel(cell, rate) else {
-            return Ok(None);
-        };
-        let event = Event::Take(call, kind, x);
-        let reply = self.step(event)?;
-        Ok(Some((event, reply)))
+        self.ask(Ask::Take(call, kind, cell, rate))
     }
 
     /// An `Open` on some free channel of the cell at a rate, judged as by [`Book::step`], with its answer. `None` says that
@@ -256,12 +296,7 @@ impl<A: Allocator + Copy> Book<A> {
         ensures memory { OnErr result ((e : Event) × OpensFree self.old call cell rate e ×
             NeedsRoom self.old (row self.old e)) }
     {
-        let Some(chan) = self.records.choose_channel(cell, rate) else {
-            return Ok(None);
-        };
-        let event = Event::Open(call, chan);
-        let reply = self.step(event)?;
-        Ok(Some((event, reply)))
+        self.ask(Ask::Open(call, cell, rate))
     }
 
     /// A `Reserve` of a number whose reference in the cell of the call's target isn't in use, judged as by
@@ -274,10 +309,10 @@ impl<A: Allocator + Copy> Book<A> {
         ensures book { IfOk result (λ chosen. self.new ≡ step self.old chosen.0) }
         ensures always { IsOk result }
     {
-        let number = self.records.choose_number(call);
-        let event = Event::Reserve(call, number);
-        let reply = self.step(event)?;
-        Ok((event, reply))
+        match self.ask(Ask::Reserve(call))? {
+            Some(asked) => Ok(asked),
+            None => unreachable!(),
+        }
     }
 
     /// How many traffic channels of the cell are free, of both rates: 0 for a cell that the site lacks, and exactly where

@@ -3,14 +3,13 @@
 ghost use Rattle.std.specs.Prelude.{◌≡◌, ◌&&◌, not};
 ghost use Rattle.radio_tables.specs.Stages.{stage_row};
 ghost use Rattle.radio_book.specs.Table.{reference_held};
-ghost use Rattle.radio_book.specs.Undone.{is_call, is_channel, is_reference, is_on_target, reserves, releases, comes_from};
+ghost use Rattle.radio_book.specs.Undone.{is_call, is_channel, is_reference, is_by_call, is_on_target, reserves, releases, comes_from};
 ghost use Rattle.radio_book.specs.Found.{ends};
 ghost use Rattle.radio_book.specs.Following.{may_be_active, leaves_off, stays, refused_in, holds, number_with, ended_with, after, opening_of, is_over, is_settled_in, is_undone_in};
 
 use crate::event::{Attempt, Reference, Refusal, Reply};
-use crate::kinds::{
-    call_of, channel_of, ended_by, number_of, opened_by, refusal_of, released_by, undone_by,
-};
+use crate::facts::facts_of;
+use crate::kinds::refusal_of;
 use crate::undone::StepAt;
 use channel_fsm::ChanId;
 
@@ -69,28 +68,34 @@ fn is_reference(held: Option<Reference>, named: Option<Reference>) -> bool
 fn ends(call: u16, step: &StepAt) -> bool
     ensures { result ≡ ends call step.now }
 {
-    is_call(call, ended_by(step.event)) && refusal_of(step.reply).is_none()
+    is_call(call, facts_of(step.event).ends) && refusal_of(step.reply).is_none()
+}
+
+fn is_by_call(call: u16, step: &StepAt) -> bool
+    ensures { result ≡ is_by_call call step.now }
+{
+    is_call(call, facts_of(step.event).about.call())
 }
 
 /// The attempt of the call reserves a reference with this step.
 fn reserves(call: u16, step: &StepAt) -> bool
     ensures { result ≡ reserves call step.now }
 {
-    is_call(call, call_of(step.event))
-        && number_of(step.event).is_some()
+    is_by_call(call, step)
+        && facts_of(step.event).reserves.is_some()
         && refusal_of(step.reply).is_none()
 }
 
 fn is_on_target(target: Option<ChanId>, step: &StepAt) -> bool
     ensures { result ≡ is_on_target target step.now }
 {
-    is_channel(target, channel_of(step.event))
+    is_channel(target, facts_of(step.event).about.channel())
 }
 
 fn releases(target: Option<ChanId>, step: &StepAt) -> bool
     ensures { result ≡ releases target step.now }
 {
-    is_channel(target, released_by(step.event))
+    is_channel(target, facts_of(step.event).releases)
 }
 
 /// The refusal comes from the target, or from the reference.
@@ -160,7 +165,7 @@ fn number_with(call: u16, number: Option<u8>, step: &StepAt) -> Option<u8>
         Some(number) => Some(number),
         None => {
             if reserves(call, step) {
-                number_of(step.event)
+                facts_of(step.event).reserves
             } else {
                 None
             }
@@ -172,7 +177,7 @@ fn number_with(call: u16, number: Option<u8>, step: &StepAt) -> Option<u8>
 fn ended_with(step: &StepAt) -> Phase
     ensures { result ≡ ended_with step.now }
 {
-    if undone_by(step.event).is_none() {
+    if facts_of(step.event).undoes.is_none() {
         return Phase::Completed;
     }
     if leaves_off(step.reply) {
@@ -188,9 +193,7 @@ impl Followed {
         ensures stays { result ≡ stays self.now step.now }
     {
         match self.phase {
-            Phase::Open(_) => {
-                !is_call(self.call, call_of(step.event)) && !is_on_target(self.target, step)
-            }
+            Phase::Open(_) => !is_by_call(self.call, step) && !is_on_target(self.target, step),
             Phase::Awaiting => !is_on_target(self.target, step),
             Phase::Settled | Phase::Completed => true,
         }
@@ -291,7 +294,7 @@ pub fn opening_of(step: &StepAt) -> Option<Followed>
     if refusal_of(step.reply).is_some() {
         return None;
     }
-    let (call, target) = opened_by(step.event)?;
+    let (call, target) = facts_of(step.event).opens?;
     Some(Followed {
         call,
         target,

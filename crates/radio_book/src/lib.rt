@@ -2,8 +2,10 @@
 //! which handover references and timers they hold. Every change of it is one event, judged by a written table.
 #![tactic(auto)]
 
+pub mod ask;
 pub mod book;
 pub mod event;
+pub mod facts;
 pub mod following;
 mod kinds;
 pub mod laws;

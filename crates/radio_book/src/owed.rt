@@ -5,6 +5,7 @@ ghost use Rattle.radio_book.specs.declared.event.Event.{Event};
 ghost use Rattle.radio_book.specs.Owed.{IsOwedWithin, StepsRaise, OwedEventsLower, most_raised, is_owed};
 
 use crate::event::Event;
+use crate::facts::facts_of;
 
 /// No more is owed than calls and channels are in use.
 pub fn owed_within()
@@ -26,22 +27,6 @@ pub fn owed_events_lower()
 pub fn is_owed(event: Event) -> bool
     ensures owed { result ≡ is_owed event }
 {
-    match event {
-        Event::Undo(_, _) | Event::Released(_) => true,
-        Event::Open(_, _)
-        | Event::Clear(_)
-        | Event::Look(_)
-        | Event::Take(_, _, _)
-        | Event::Reserve(_, _)
-        | Event::Activate(_)
-        | Event::Command(_)
-        | Event::Complete(_)
-        | Event::Confirm(_)
-        | Event::Refuse(_)
-        | Event::Detect(_)
-        | Event::Owner(_)
-        | Event::Require(_)
-        | Event::Order(_)
-        | Event::Left(_) => false,
-    }
+    let facts = facts_of(event);
+    facts.undoes.is_some() || facts.releases.is_some()
 }

@@ -149,7 +149,7 @@ impl<T: Tables> Records<T> {
 }
 
 impl<T: CopyTables> Records<T> {
-    /// The same records again. Memory is asked for.
+    /// A copy. Memory is asked for.
     pub fn copy(&self) -> Result<Records<T>, AllocError>
         ensures { IfOk result (λ copy. copy ≡ self.now) }
     {

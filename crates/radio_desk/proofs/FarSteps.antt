@@ -5,7 +5,8 @@ use Rattle.std.proofs.lemmas.Bool.{and_parts, and_left, and_right, ne_eqb, both_
 use Rattle.channel_fsm.specs.declared.ChanId.{ChanId}
 use Rattle.timeslots.specs.Parts.{sub_number}
 use Rattle.radio_book.specs.declared.event.Event.{Event}
-use Rattle.radio_book.specs.declared.event.Event.TheVariants as event
+use Rattle.radio_book.specs.declared.facts.About.{About}
+use Rattle.radio_book.specs.declared.facts.About.TheVariants.{Call, Channel}
 use Rattle.radio_book.specs.declared.event.Refusal.{Refusal}
 use Rattle.radio_book.specs.declared.event.Refusal.TheVariants.{NoCall, CallExists, WrongPhase, NoChannel, SameCell, ChannelBusy, RefBusy, Unexpected, NotArmed}
 use Rattle.radio_book.specs.declared.undone.StepAt.{StepAt}
@@ -13,48 +14,59 @@ use Rattle.radio_book.specs.declared.following.Phase.{Phase}
 use Rattle.radio_book.specs.declared.following.Phase.TheVariants.{Open, Awaiting, Settled, Completed}
 use Rattle.radio_book.specs.declared.following.Followed.{Followed}
 use Rattle.radio_book.specs.Table.{reference_held}
-use Rattle.radio_book.specs.Kinds.{call_of, channel_of, released_by, number_of, refusal_of, is_accepted}
+use Rattle.radio_book.specs.Facts.{event_facts}
+use Rattle.radio_book.specs.Kinds.{call_in, channel_in, call_of, channel_of, released_by, number_of, refusal_of, is_accepted}
 use Rattle.radio_book.specs.Found.{ended_by, undone_by, ends}
 use Rattle.radio_book.specs.Undone.{is_call, is_channel, is_by_call, is_on_target, releases, reserves, comes_from}
 use Rattle.radio_book.specs.Following.{stays, stays_in, holds, refused_in, after, phase_after, ended_with, number_with, leaves_off, is_over, is_over_in}
+use Rattle.radio_book.proofs.FactsAgree.{facts_agree}
 use Rattle.radio_desk.specs.Followers.{call_row, cell_row, target_row, asked_row, step_row, busy_in, refused_row}
 
 -- WHAT AN EVENT IS ABOUT
 
 -- an event is asked for a call, and is about no channel, or is a station's about a channel
 record ByCall (e : Event) (c : ℕ) : Type 0 where
-  call : call_of e ≡ Some c
-  channel : channel_of e ≡ None
+  about : (event_facts e).about ≡ Call c
   ended : (ended_by e ≡ None) ⊎ (ended_by e ≡ Some c)
   released : released_by e ≡ None
 
 record ByStation (e : Event) (x : ChanId) : Type 0 where
-  call : call_of e ≡ None
-  channel : channel_of e ≡ Some x
+  about : (event_facts e).about ≡ Channel x
   ended : ended_by e ≡ None
   released : (released_by e ≡ None) ⊎ (released_by e ≡ Some x)
 
 abbrev Told : Event → Type 0
 Told e = ((c : ℕ) × ByCall e c) ⊎ ((x : ChanId) × ByStation e x)
 
+-- one of two is there just where the other is
+either : {X : Type 0} (o p q : Option X) → (o ≡ None) ⊎ (o ≡ p) → p ≡ q → (o ≡ None) ⊎ (o ≡ q)
+either o p q (inl none) same = inl none
+either o p q (inr is) same = inr (is ∙ same)
+
+neither : {X : Type 0} (o p : Option X) → (o ≡ None) ⊎ (o ≡ p) → p ≡ None → o ≡ None
+neither o p (inl none) same = none
+neither o p (inr is) same = is ∙ same
+
 told : (e : Event) → Told e
-told (event.Open c x) = inl (c, record { call = refl; channel = refl; ended = inl refl; released = refl })
-told (event.Clear c) = inl (c, record { call = refl; channel = refl; ended = inl refl; released = refl })
-told (event.Look c) = inl (c, record { call = refl; channel = refl; ended = inl refl; released = refl })
-told (event.Take c k x) = inl (c, record { call = refl; channel = refl; ended = inl refl; released = refl })
-told (event.Reserve c n) = inl (c, record { call = refl; channel = refl; ended = inl refl; released = refl })
-told (event.Activate c) = inl (c, record { call = refl; channel = refl; ended = inl refl; released = refl })
-told (event.Command c) = inl (c, record { call = refl; channel = refl; ended = inl refl; released = refl })
-told (event.Complete c) = inl (c, record { call = refl; channel = refl; ended = inr refl; released = refl })
-told (event.Undo c why) = inl (c, record { call = refl; channel = refl; ended = inr refl; released = refl })
-told (event.Confirm x) = inr (x, record { call = refl; channel = refl; ended = refl; released = inl refl })
-told (event.Refuse x) = inr (x, record { call = refl; channel = refl; ended = refl; released = inl refl })
-told (event.Detect x) = inr (x, record { call = refl; channel = refl; ended = refl; released = inl refl })
-told (event.Released x) = inr (x, record { call = refl; channel = refl; ended = refl; released = inr refl })
-told (event.Owner x) = inr (x, record { call = refl; channel = refl; ended = refl; released = inl refl })
-told (event.Require c) = inl (c, record { call = refl; channel = refl; ended = inl refl; released = refl })
-told (event.Order c) = inl (c, record { call = refl; channel = refl; ended = inl refl; released = refl })
-told (event.Left c) = inl (c, record { call = refl; channel = refl; ended = inr refl; released = refl })
+told e = by (event_facts e).about refl
+  where
+    by : (about : About) → (event_facts e).about ≡ about → Told e
+    by (Call c) is = inl (
+      c,
+      record {
+        about = is;
+        ended = either (ended_by e) (call_of e) (Some c) (facts_agree e).ends (ap call_in is);
+        released = neither (released_by e) (channel_of e) (facts_agree e).releases (ap channel_in is);
+      },
+    )
+    by (Channel x) is = inr (
+      x,
+      record {
+        about = is;
+        ended = neither (ended_by e) (call_of e) (facts_agree e).ends (ap call_in is);
+        released = either (released_by e) (channel_of e) (Some x) (facts_agree e).releases (ap channel_in is);
+      },
+    )
 
 -- FAR STEPS
 
@@ -87,25 +99,25 @@ released_no t y o other (inr some) = ap (is_channel t) some ∙ other
 module _ (p : Followed) (s : StepAt) (by_call : call_row p.call ≡ step_row s → ⊥) (by_cell : target_row p ≡ step_row s → ⊥) where
   far_by_call : (c : ℕ) → ByCall s.event c → IsFar p s
   far_by_call c it = record {
-    call = ap (is_call p.call) it.call ∙ other;
-    target = ap (is_channel p.target) it.channel ∙ no_channel p.target;
+    call = ap (λ about. is_call p.call (call_in about)) it.about ∙ other;
+    target = ap (λ about. is_channel p.target (channel_in about)) it.about ∙ no_channel p.target;
     ended = ended_no p.call c (ended_by s.event) other it.ended;
     released = ap (is_channel p.target) it.released ∙ no_channel p.target;
   }
     where
       other : is_call p.call (Some c) ≡ false
-      other = other_call p.call c (λ same. by_call (same ∙ sym (λ i. asked_row (it.call i) (it.channel i))))
+      other = other_call p.call c (λ same. by_call (same ∙ sym (ap asked_row it.about)))
 
   far_by_station : (y : ChanId) → ByStation s.event y → IsFar p s
   far_by_station y it = record {
-    call = ap (is_call p.call) it.call;
-    target = ap (is_channel p.target) it.channel ∙ other;
+    call = ap (λ about. is_call p.call (call_in about)) it.about;
+    target = ap (λ about. is_channel p.target (channel_in about)) it.about ∙ other;
     ended = ap (is_call p.call) it.ended;
     released = released_no p.target y (released_by s.event) other it.released;
   }
     where
       other : is_channel p.target (Some y) ≡ false
-      other = other_channel p.target y (λ x is same. by_cell (ap (cell_row p.call) is ∙ same ∙ sym (λ i. asked_row (it.call i) (it.channel i))))
+      other = other_channel p.target y (λ x is same. by_cell (ap (cell_row p.call) is ∙ same ∙ sym (ap asked_row it.about)))
 
   by_told : Told s.event → IsFar p s
   by_told (inl it) = far_by_call it.0 it.1

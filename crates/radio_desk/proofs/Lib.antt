@@ -4,8 +4,6 @@ pub mod Leading
 mod AuditFacts
 -- a desk with one more entry
 pub mod Rooms
--- a channel that is taken at a desk
-pub mod Taking
 -- attempts that a step leaves as they are; that a step comes twice
 pub mod FarSteps
 -- rows in which attempts stand

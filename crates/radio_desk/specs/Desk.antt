@@ -1,6 +1,6 @@
 -- A desk: a book, the one that it opened with, and the history of events with their replies that leads from this to that.
 -- Ours, of no standard.
-use Rattle.std.specs.Prelude.{◌≡◌, ◌+◌, ◌<◌, ◌≤◌, ℕ, List, [], ◌∷◌, ◌++◌, length, Option, Some, None, slice_get, refl}
+use Rattle.std.specs.Prelude.{◌≡◌, IsTrue, ◌+◌, ◌<◌, ◌≤◌, ℕ, List, [], ◌∷◌, ◌++◌, length, Option, Some, None, slice_get, refl}
 use Rattle.std.specs.Coded.{Coded, code_by, coded×, coded_ℕ, coded_list}
 use Rattle.radio_book.specs.declared.event.Event.{Event}
 use Rattle.radio_book.specs.declared.event.Reply.{Reply}
@@ -9,7 +9,10 @@ use Rattle.radio_book.specs.contracts.event.Reply.{the_row as reply_row}
 use Rattle.radio_book.specs.State.{State, state_code}
 use Rattle.radio_book.specs.Table.{step, reply_to}
 use Rattle.radio_book.specs.Run.{Leads}
-use Rattle.radio_book.specs.Owed.{owed, calls_and_channels}
+use Rattle.radio_book.specs.Owed.{owed, calls_and_channels, is_owed}
+use Rattle.radio_book.specs.Kinds.{is_accepted}
+use Rattle.radio_book.specs.declared.ask.Ask.{Ask}
+use Rattle.radio_book.specs.declared.ask.Ask.TheVariants as ask
 use Rattle.radio_desk.specs.Receipts.{Receipt}
 
 pub record DeskState : Type 0 where
@@ -42,6 +45,13 @@ LacksRoom d = d.room < calls_and_channels d.book + 3
 -- the same of a history that can hold so many entries, and has so many
 abbrev pub LacksCapacity : ℕ → ℕ → State → Type 0
 LacksCapacity capacity entries b = capacity < entries + (calls_and_channels b + 3)
+
+-- what is asked is an event that is owed, and the book accepts it
+abbrev pub IsOwedAsk : State → Ask → Type 0
+IsOwedAsk b (ask.Event e) = IsTrue (is_owed e) × IsTrue (is_accepted (reply_to b e))
+IsOwedAsk b (ask.Take c kind cell rate) = ⊥
+IsOwedAsk b (ask.Open c cell rate) = ⊥
+IsOwedAsk b (ask.Reserve c) = ⊥
 
 -- at the receipt's place stands its event with its reply
 abbrev pub IsEntryOf : List (Event × Reply) → Receipt → Type 0

@@ -7,7 +7,10 @@ use Rattle.radio_book.specs.declared.event.Refusal.{Refusal}
 use Rattle.radio_book.specs.declared.event.Refusal.TheVariants.{NoCall, CallExists, WrongPhase, NoChannel, SameCell, ChannelBusy, RefBusy, Unexpected, NotArmed}
 use Rattle.radio_book.specs.declared.undone.StepAt.{StepAt}
 use Rattle.radio_book.specs.declared.following.Followed.{Followed}
-use Rattle.radio_book.specs.Kinds.{call_of, channel_of, refusal_of}
+use Rattle.radio_book.specs.declared.facts.About.{About}
+use Rattle.radio_book.specs.declared.facts.About.TheVariants.{Call, Channel}
+use Rattle.radio_book.specs.Facts.{event_facts}
+use Rattle.radio_book.specs.Kinds.{refusal_of}
 use Rattle.radio_book.specs.Following.{is_over, after, settles, opening_of}
 
 -- ROWS
@@ -25,13 +28,12 @@ abbrev pub target_row : Followed → ℕ
 target_row p = cell_row p.call p.target
 
 -- the row of the call that a step is asked for, or of the cell of the channel that a station's step is about
-abbrev pub asked_row : Option ℕ → Option ChanId → ℕ
-asked_row (Some c) x = call_row c
-asked_row None (Some x) = x.cell
-asked_row None None = 0
+abbrev pub asked_row : About → ℕ
+asked_row (Call c) = call_row c
+asked_row (Channel x) = x.cell
 
 abbrev pub step_row : StepAt → ℕ
-step_row s = asked_row (call_of s.event) (channel_of s.event)
+step_row s = asked_row (event_facts s.event).about
 
 -- the row of the cell of the channel, or of the reference, that a refusal names
 abbrev pub busy_row : Refusal → Option ℕ

@@ -2,22 +2,25 @@
 ghost use Rattle.std.specs.Prelude.{◌≡◌, ◌≢◌, ◌↔◌, ◌⊎◌, IsTrue, false, ◌+◌, ◌≤◌, ◌++◌, ◌∷◌, ℕ, [], length, vec_len, vec_capacity, Option, None, Some, Ok, Err, MatchOption, IfOk, IfSome, OnOk, OnErr, slice_get};
 ghost use Rattle.radio_book.specs.declared.event.Event.{Event};
 ghost use Rattle.radio_book.specs.declared.event.Kind.{Kind};
+ghost use Rattle.radio_book.specs.declared.facts.Milestone.TheVariants as milestone;
 ghost use Rattle.radio_book.specs.Run.{Leads};
 ghost use Rattle.radio_book.specs.Table.{row, reply_to, NeedsRoom, MayBeRefused};
 ghost use Rattle.radio_book.specs.Choice.{NoneFreeAt, TakesFree, OpensFree, ReservesFree};
 ghost use Rattle.radio_book.specs.Kinds.{is_accepted};
 ghost use Rattle.radio_book.specs.Owed.{owed, is_owed};
-ghost use Rattle.radio_desk.specs.Desk.{IsEntryOf, HoldsLast, IsForeign, IsJudged, IsSameDesk, IsAnew, LacksRoom};
+ghost use Rattle.radio_book.specs.Asks.{IsAsked, NoneFor, MayLackMemory};
+ghost use Rattle.radio_desk.specs.Desk.{IsOwedAsk, IsEntryOf, HoldsLast, IsForeign, IsJudged, IsSameDesk, IsAnew, LacksRoom};
 ghost use Rattle.radio_desk.specs.Receipts.{Receipt};
 ghost use Rattle.radio_desk.specs.Tally.{count_of};
 ghost use Rattle.radio_desk.specs.Audit.{IsAuditOf};
 
 use crate::audit::{Audit, audit_of};
 use crate::entry::is_entry;
-use crate::room::{answer, answer_reserve, make_room};
+use crate::room::{answer, make_room};
 use crate::seat::{Receipt, Seat};
 use crate::tally::{Tally, tally_of};
 use channel_fsm::Rate;
+use radio_book::ask::Ask;
 use radio_book::book::Book;
 use radio_book::event::{Event, Kind, Reply};
 use std::alloc::{AllocError, Allocator, Global};
@@ -135,10 +138,10 @@ impl<A: Allocator + Copy> Desk<A> {
     /// How many calls began, how many attempts at handover, and how many of these were completed or taken back, by the
     /// events that were accepted.
     pub fn tally(&self) -> Tally
-        ensures calls { result.calls ≡ count_of (λ m. m.call) self.now.history }
-        ensures attempts { result.attempts ≡ count_of (λ m. m.attempt) self.now.history }
-        ensures completed { result.completed ≡ count_of (λ m. m.completed) self.now.history }
-        ensures undone { result.undone ≡ count_of (λ m. m.undone) self.now.history }
+        ensures calls { result.calls ≡ count_of milestone.Opened self.now.history }
+        ensures attempts { result.attempts ≡ count_of milestone.Began self.now.history }
+        ensures completed { result.completed ≡ count_of milestone.Completed self.now.history }
+        ensures undone { result.undone ≡ count_of milestone.Undone self.now.history }
     {
         tally_of(self.history.as_slice())
     }
@@ -171,8 +174,9 @@ impl<A: Allocator + Copy> Desk<A> {
         &self.book
     }
 
-    /// Judges an event as [`Book::step`] does, and keeps it with its reply, also where it is refused. The receipt is the
-    /// seat's last from then on.
+    /// Asks the book what [`Book::choose`] chooses there, judges it as [`Book::step`] does, and keeps it with its reply, also
+    /// where it is refused. The receipt is the seat's last from then on. `None`, just where no channel is free for what is asked,
+    /// is no entry, changes nothing and takes no memory.
     ///
     /// `Foreign`, which is looked at first, exactly where the history doesn't hold the seat's last receipt. After either
     /// fault desk and seat are as they were; after `NoMemory` the history may have got room.
@@ -181,6 +185,45 @@ impl<A: Allocator + Copy> Desk<A> {
     /// it, and the history gets no other. Before any other event changes the book, room is made for its entry and for what is
     /// owed because of it.
     // Compiled into its callers, so that a receipt that neither seat nor caller keeps is never written.
+    #[inline(always)]
+    pub fn ask(&mut self, seat: &mut Seat, ask: Ask) -> Result<Option<Receipt>, DeskFault>
+        ensures foreign { (place : ℕ) → (result ≡ Err (DeskFault.Foreign place)) ↔
+            IsForeign self.old.history seat.old place }
+        ensures held { OnOk result (HoldsLast self.old.history seat.old) }
+        ensures none { result ≡ Ok None → NoneFor self.old.book ask }
+        ensures looked { HoldsLast self.old.history seat.old → NoneFor self.old.book ask →
+            result ≡ Ok None }
+        ensures kept { result ≡ Ok None → IsSameDesk self.old self.new × (seat.new ≡ seat.old) }
+        ensures none_takes_none { result ≡ Ok None → self.new.room ≡ self.old.room }
+        ensures event { IfOk result (λ answer. IfSome answer
+            (λ receipt. IsAsked self.old.book ask receipt.event)) }
+        ensures judged { IfOk result (λ answer. IfSome answer
+            (λ receipt. IsJudged self.old receipt self.new)) }
+        ensures seat { IfOk result (λ answer. IfSome answer
+            (λ receipt. seat.new ≡ Some receipt)) }
+        ensures unchanged { OnErr result (IsSameDesk self.old self.new × (seat.new ≡ seat.old)) }
+        ensures foreign_takes_none { (place : ℕ) → result ≡ Err (DeskFault.Foreign place) →
+            self.new.room ≡ self.old.room }
+        ensures memory { result ≡ Err DeskFault.NoMemory → LacksRoom self.old ⊎
+            ((e : Event) × IsAsked self.old.book ask e ×
+            NeedsRoom self.old.book (row self.old.book e)) }
+        ensures begins { result ≡ Err DeskFault.NoMemory →
+            LacksRoom self.old ⊎ MayLackMemory ask }
+        ensures owed { IsOwedAsk self.old.book ask → result ≢ Err DeskFault.NoMemory }
+        ensures takes_none { IsOwedAsk self.old.book ask →
+            OnOk result (self.new.room + 1 ≡ self.old.room) }
+    {
+        if let Some(place) = foreign_place(self.history.as_slice(), seat) {
+            return Err(DeskFault::Foreign(place));
+        }
+        let Some(event) = self.book.choose(ask) else {
+            return Ok(None);
+        };
+        let reply = answer(&mut self.history, &mut self.book, event)?;
+        Ok(Some(enter(&mut self.history, seat, event, reply)))
+    }
+
+    /// Asks this event, as [`Desk::ask`] does: it is always answered.
     #[inline(always)]
     pub fn judge(&mut self, seat: &mut Seat, event: Event) -> Result<Receipt, DeskFault>
         ensures foreign { (place : ℕ) → (result ≡ Err (DeskFault.Foreign place)) ↔
@@ -203,16 +246,13 @@ impl<A: Allocator + Copy> Desk<A> {
             IsTrue (is_accepted (reply_to self.old.book event)) →
             OnOk result (self.new.room + 1 ≡ self.old.room) }
     {
-        if let Some(place) = foreign_place(self.history.as_slice(), seat) {
-            return Err(DeskFault::Foreign(place));
+        match self.ask(seat, Ask::Event(event))? {
+            Some(receipt) => Ok(receipt),
+            None => unreachable!(),
         }
-        let reply = answer(&mut self.history, &mut self.book, event)?;
-        Ok(enter(&mut self.history, seat, event, reply))
     }
 
-    /// Judges a `Take` of some channel of a cell that is free at a rate, as [`Book::take_any`] chooses it. `None`, just where
-    /// the cell has none, is no entry, changes nothing and takes no memory. Else as [`Desk::judge`].
-    #[tactic(auto, using(crate::proofs::Taking::not_foreign, crate::proofs::Taking::take_memory))]
+    /// Asks a `Take` of some channel of a cell that is free at a rate, as [`Desk::ask`] does.
     pub fn judge_take(
         &mut self,
         seat: &mut Seat,
@@ -244,19 +284,10 @@ impl<A: Allocator + Copy> Desk<A> {
         ensures begins { result ≡ Err DeskFault.NoMemory →
             LacksRoom self.old ⊎ (kind ≡ Kind.Incoming) }
     {
-        if let Some(place) = foreign_place(self.history.as_slice(), seat) {
-            return Err(DeskFault::Foreign(place));
-        }
-        let Some(chan) = self.book.free_channel(cell, rate) else {
-            return Ok(None);
-        };
-        let receipt = self.judge(seat, Event::Take(call, kind, chan))?;
-        Ok(Some(receipt))
+        self.ask(seat, Ask::Take(call, kind, cell, rate))
     }
 
-    /// Judges an `Open` on some channel of a cell that is free at a rate, as [`Book::open_any`] chooses it. `None`, just where
-    /// the cell has none, is no entry, changes nothing and takes no memory. Else as [`Desk::judge`].
-    #[tactic(auto, using(crate::proofs::Taking::not_foreign, crate::proofs::Taking::open_memory))]
+    /// Asks an `Open` on some channel of a cell that is free at a rate, as [`Desk::ask`] does.
     pub fn judge_open(
         &mut self,
         seat: &mut Seat,
@@ -285,17 +316,11 @@ impl<A: Allocator + Copy> Desk<A> {
             ((e : Event) × OpensFree self.old.book call cell rate e ×
             NeedsRoom self.old.book (row self.old.book e)) }
     {
-        if let Some(place) = foreign_place(self.history.as_slice(), seat) {
-            return Err(DeskFault::Foreign(place));
-        }
-        match self.book.free_channel(cell, rate) {
-            Some(chan) => Ok(Some(self.judge(seat, Event::Open(call, chan))?)),
-            None => Ok(None),
-        }
+        self.ask(seat, Ask::Open(call, cell, rate))
     }
 
-    /// Judges a `Reserve` of some free reference, as [`Book::reserve_any`] chooses it. Memory is asked for the history alone.
-    /// Else as [`Desk::judge`].
+    /// Asks a `Reserve` of some free reference, as [`Desk::ask`] does: it is always answered. Memory is asked for the history
+    /// alone.
     pub fn judge_reserve(&mut self, seat: &mut Seat, call: u16) -> Result<Receipt, DeskFault>
         ensures foreign { (place : ℕ) → (result ≡ Err (DeskFault.Foreign place)) ↔
             IsForeign self.old.history seat.old place }
@@ -308,11 +333,10 @@ impl<A: Allocator + Copy> Desk<A> {
             self.new.room ≡ self.old.room }
         ensures memory { result ≡ Err DeskFault.NoMemory → LacksRoom self.old }
     {
-        if let Some(place) = foreign_place(self.history.as_slice(), seat) {
-            return Err(DeskFault::Foreign(place));
+        match self.ask(seat, Ask::Reserve(call))? {
+            Some(receipt) => Ok(receipt),
+            None => unreachable!(),
         }
-        let (event, reply) = answer_reserve(&mut self.history, &mut self.book, call)?;
-        Ok(enter(&mut self.history, seat, event, reply))
     }
 
     /// Begins anew with today's book: it is the opening one from now on, and the history is empty. The history keeps its

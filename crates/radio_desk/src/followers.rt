@@ -7,7 +7,8 @@ ghost use Rattle.radio_book.specs.Following.{stays, holds, after, is_over, is_se
 ghost use Rattle.radio_desk.specs.Followers.{call_row, target_row, step_row, busy_row, refused_row, AreRows, IsEnough, passes_at, gone_on};
 
 use crate::rows::Rows;
-use radio_book::event::{Event, Refusal, Reply};
+use radio_book::event::{Refusal, Reply};
+use radio_book::facts::{About, facts_of};
 use radio_book::following::Followed;
 use radio_book::undone::StepAt;
 use std::alloc::{AllocError, Allocator};
@@ -40,24 +41,9 @@ fn step_row(step: &StepAt) -> usize
     ensures row { result ≡ step_row step.now }
     ensures within { result < 1280 }
 {
-    match step.event {
-        Event::Open(call, _)
-        | Event::Clear(call)
-        | Event::Look(call)
-        | Event::Take(call, _, _)
-        | Event::Reserve(call, _)
-        | Event::Activate(call)
-        | Event::Command(call)
-        | Event::Complete(call)
-        | Event::Undo(call, _)
-        | Event::Require(call)
-        | Event::Order(call)
-        | Event::Left(call) => call_row(call),
-        Event::Confirm(x)
-        | Event::Refuse(x)
-        | Event::Detect(x)
-        | Event::Released(x)
-        | Event::Owner(x) => x.cell as usize,
+    match facts_of(step.event).about {
+        About::Call(call) => call_row(call),
+        About::Channel(chan) => chan.cell as usize,
     }
 }
 
@@ -143,7 +129,7 @@ fn go_on_at(attempts: &mut [Followed], row: &[usize], step: &StepAt)
     }
 }
 
-/// The same of a list that grows.
+/// The attempts of a list that grows go on by a step, which concerns none but those at these places.
 fn go_on_all<A: Allocator>(attempts: &mut Vec<Followed, A>, row: &[usize], step: &StepAt)
     requires { IsEnough attempts.old.items row.now step.now }
     ensures { attempts.new.items ≡ map (λ p. after p step.now) attempts.old.items }

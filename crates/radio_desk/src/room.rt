@@ -7,7 +7,6 @@
 //! that is kept.
 ghost use Rattle.std.specs.Prelude.{◌≡◌, ◌⊎◌, ◌+◌, ◌-◌, ◌^◌, ◌≤◌, IsTrue, false, IfOk, OnOk, OnErr, IsOk, MatchOption, vec_len, vec_capacity};
 ghost use Rattle.radio_book.specs.declared.event.Event.{Event};
-ghost use Rattle.radio_book.specs.Choice.{ReservesFree};
 ghost use Rattle.radio_book.specs.Kinds.{is_accepted};
 ghost use Rattle.radio_book.specs.Owed.{owed, is_owed};
 ghost use Rattle.radio_book.specs.Sound.{IsSound};
@@ -146,28 +145,4 @@ pub(crate) fn answer<A: Allocator + Copy>(
     } else {
         answer_any(history, book, event)
     }
-}
-
-/// Asks the book a `Reserve` of some free reference, as [`Book::reserve_any`] chooses it, once there is room for its entry
-/// beside all that is owed then.
-pub(crate) fn answer_reserve<A: Allocator + Copy>(
-    history: &mut Vec<(Event, Reply), A>,
-    book: &mut Book<A>,
-    call: u16,
-) -> Result<(Event, Reply), AllocError>
-    ensures event { IfOk result (λ chosen. ReservesFree book.old call chosen.0) }
-    ensures reply { IfOk result (λ chosen. chosen.1 ≡ reply_to book.old chosen.0) }
-    ensures book { IfOk result (λ chosen. book.new ≡ step book.old chosen.0) }
-    ensures room { OnOk result (vec_len history.new + (owed book.new + 1)
-        ≤ vec_capacity history.new) }
-    ensures unchanged { OnErr result (book.new ≡ book.old) }
-    ensures memory { OnErr result
-        (LacksCapacity (vec_capacity history.old) (vec_len history.old) book.old) }
-    ensures items { history.new.items ≡ history.old.items }
-    ensures len { vec_len history.new ≡ vec_len history.old }
-    ensures capacity { vec_capacity history.old ≤ vec_capacity history.new }
-{
-    steps_raise();
-    make_room(history, book)?;
-    book.reserve_any(call)
 }

@@ -1,9 +1,12 @@
 //! What a history tells of calls and handovers.
 ghost use Rattle.std.specs.Prelude.{◌≡◌, ◌&&◌};
+ghost use Rattle.radio_book.specs.declared.facts.Milestone.TheVariants as milestone;
+ghost use Rattle.radio_book.specs.Facts.{event_facts};
 ghost use Rattle.radio_book.specs.Kinds.{is_accepted};
-ghost use Rattle.radio_desk.specs.Tally.{milestones_of, count_of};
+ghost use Rattle.radio_desk.specs.Tally.{is_reached, count_of};
 
 use radio_book::event::{Event, Reply};
+use radio_book::facts::{Milestone, facts_of};
 
 /// How many events of each kind a history accepted.
 #[derive(Clone, Copy, Debug, PartialEq, Eq)]
@@ -18,138 +21,48 @@ pub struct Tally {
     pub undone: usize,
 }
 
-/// What an event begins or ends, once it is accepted.
-#[derive(Clone, Copy, Debug, PartialEq, Eq)]
-pub struct Milestones {
-    /// A call is opened.
-    pub call: bool,
-    /// An attempt at handover begins.
-    pub attempt: bool,
-    /// An attempt is completed.
-    pub completed: bool,
-    /// An attempt is taken back.
-    pub undone: bool,
+/// Whether a milestone was reached that is this one.
+fn is_reached(milestone: Milestone, reached: Option<Milestone>) -> bool
+    ensures { result ≡ is_reached milestone reached }
+{
+    matches!(
+        (milestone, reached),
+        (Milestone::Opened, Some(Milestone::Opened))
+            | (Milestone::Began, Some(Milestone::Began))
+            | (Milestone::Commanded, Some(Milestone::Commanded))
+            | (Milestone::Completed, Some(Milestone::Completed))
+            | (Milestone::Undone, Some(Milestone::Undone))
+    )
 }
 
-/// Nothing begins or ends.
-const NOTHING: Milestones = Milestones {
-    call: false,
-    attempt: false,
-    completed: false,
-    undone: false,
-};
-
-/// What an event begins or ends, once it is accepted.
-fn milestones_of(event: Event) -> Milestones
-    ensures { result ≡ milestones_of event }
+/// Whether a call came to a milestone by an event that was accepted.
+fn is_counted(milestone: Milestone, event: Event, reply: Reply) -> bool
+    ensures { result ≡ (is_accepted reply && is_reached milestone (event_facts event).milestone) }
 {
-    match event {
-        Event::Open(..) => Milestones {
-            call: true,
-            ..NOTHING
-        },
-        Event::Take(..) | Event::Require(_) => Milestones {
-            attempt: true,
-            ..NOTHING
-        },
-        Event::Complete(_) => Milestones {
-            completed: true,
-            ..NOTHING
-        },
-        Event::Undo(..) => Milestones {
-            undone: true,
-            ..NOTHING
-        },
-        Event::Clear(_)
-        | Event::Look(_)
-        | Event::Reserve(..)
-        | Event::Activate(_)
-        | Event::Command(_)
-        | Event::Confirm(_)
-        | Event::Refuse(_)
-        | Event::Detect(_)
-        | Event::Released(_)
-        | Event::Owner(_)
-        | Event::Order(_)
-        | Event::Left(_) => NOTHING,
-    }
+    reply.is_accepted() && is_reached(milestone, facts_of(event).milestone)
+}
+
+/// How often calls came to a milestone.
+fn count_of(milestone: Milestone, history: &[(Event, Reply)]) -> usize
+    ensures { result ≡ count_of milestone history.now }
+{
+    history
+        .iter()
+        .filter(|entry| is_counted(milestone, entry.0, entry.1))
+        .count()
 }
 
 /// How many calls a history opened, how many attempts it began, and how many of these it completed or took back.
 pub(crate) fn tally_of(history: &[(Event, Reply)]) -> Tally
-    ensures calls { result.calls ≡ count_of (λ m. m.call) history.now }
-    ensures attempts { result.attempts ≡ count_of (λ m. m.attempt) history.now }
-    ensures completed { result.completed ≡ count_of (λ m. m.completed) history.now }
-    ensures undone { result.undone ≡ count_of (λ m. m.undone) history.now }
+    ensures calls { result.calls ≡ count_of milestone.Opened history.now }
+    ensures attempts { result.attempts ≡ count_of milestone.Began history.now }
+    ensures completed { result.completed ≡ count_of milestone.Completed history.now }
+    ensures undone { result.undone ≡ count_of milestone.Undone history.now }
 {
     Tally {
-        calls: calls_in(history),
-        attempts: attempts_in(history),
-        completed: completed_in(history),
-        undone: undone_in(history),
+        calls: count_of(Milestone::Opened, history),
+        attempts: count_of(Milestone::Began, history),
+        completed: count_of(Milestone::Completed, history),
+        undone: count_of(Milestone::Undone, history),
     }
-}
-
-/// A call was opened.
-fn began_call(event: Event, reply: Reply) -> bool
-    ensures { result ≡ (is_accepted reply && (milestones_of event).call) }
-{
-    reply.is_accepted() && milestones_of(event).call
-}
-
-fn calls_in(history: &[(Event, Reply)]) -> usize
-    ensures { result ≡ count_of (λ m. m.call) history.now }
-{
-    history
-        .iter()
-        .filter(|entry| began_call(entry.0, entry.1))
-        .count()
-}
-
-/// An attempt began.
-fn began_attempt(event: Event, reply: Reply) -> bool
-    ensures { result ≡ (is_accepted reply && (milestones_of event).attempt) }
-{
-    reply.is_accepted() && milestones_of(event).attempt
-}
-
-fn attempts_in(history: &[(Event, Reply)]) -> usize
-    ensures { result ≡ count_of (λ m. m.attempt) history.now }
-{
-    history
-        .iter()
-        .filter(|entry| began_attempt(entry.0, entry.1))
-        .count()
-}
-
-/// An attempt was completed.
-fn completed_attempt(event: Event, reply: Reply) -> bool
-    ensures { result ≡ (is_accepted reply && (milestones_of event).completed) }
-{
-    reply.is_accepted() && milestones_of(event).completed
-}
-
-fn completed_in(history: &[(Event, Reply)]) -> usize
-    ensures { result ≡ count_of (λ m. m.completed) history.now }
-{
-    history
-        .iter()
-        .filter(|entry| completed_attempt(entry.0, entry.1))
-        .count()
-}
-
-/// An attempt was taken back.
-fn undid_attempt(event: Event, reply: Reply) -> bool
-    ensures { result ≡ (is_accepted reply && (milestones_of event).undone) }
-{
-    reply.is_accepted() && milestones_of(event).undone
-}
-
-fn undone_in(history: &[(Event, Reply)]) -> usize
-    ensures { result ≡ count_of (λ m. m.undone) history.now }
-{
-    history
-        .iter()
-        .filter(|entry| undid_attempt(entry.0, entry.1))
-        .count()
 }

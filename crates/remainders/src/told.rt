@@ -4,6 +4,7 @@ use channel_fsm::{ChanId, Rate};
 use exchange::{Inbound, Line};
 use lab_script::script::Side;
 use radio_book::event::Event;
+use radio_book::facts::facts_of;
 use run_listeners::Turn;
 use std::alloc::{AllocError, Allocator};
 use std::io::{self, Write};
@@ -33,24 +34,12 @@ fn is_seize<A: Allocator>(input: &Inbound<A>) -> bool {
 
 /// The channel that an event takes because it was free.
 fn chosen_by(event: Event, is_seize: bool) -> Option<ChanId> {
-    match event {
-        Event::Take(_, _, chan) => Some(chan),
-        Event::Open(_, chan) => { if is_seize { Some(chan) } else { None } }
-        Event::Clear(_)
-        | Event::Look(_)
-        | Event::Reserve(..)
-        | Event::Activate(_)
-        | Event::Undo(..)
-        | Event::Command(_)
-        | Event::Complete(_)
-        | Event::Require(_)
-        | Event::Order(_)
-        | Event::Left(_)
-        | Event::Confirm(_)
-        | Event::Refuse(_)
-        | Event::Released(_)
-        | Event::Detect(_)
-        | Event::Owner(_) => None,
+    let facts = facts_of(event);
+    let (_, chan) = facts.gives?;
+    if facts.opens.is_some() || is_seize {
+        Some(chan)
+    } else {
+        None
     }
 }
 

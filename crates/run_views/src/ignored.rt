@@ -4,6 +4,7 @@ use channel_fsm::ChanState;
 use exchange::{Inbound, Line};
 use line_words::Content;
 use radio_book::event::{Event, Reply};
+use radio_book::facts::facts_of;
 use rsl_messages::Rsl;
 use run_listeners::{Answer, Turn};
 use std::alloc::Allocator;
@@ -26,32 +27,10 @@ pub(crate) fn is_nowhere<A: Allocator + Copy>(turn: &Turn<A>, site: &Site<A>) ->
     }
 }
 
-/// Whether an event only asks.
-fn is_question(event: Event) -> bool {
-    match event {
-        Event::Look(_) | Event::Owner(_) => true,
-        Event::Open(..)
-        | Event::Clear(_)
-        | Event::Take(..)
-        | Event::Reserve(..)
-        | Event::Activate(_)
-        | Event::Undo(..)
-        | Event::Command(_)
-        | Event::Complete(_)
-        | Event::Require(_)
-        | Event::Order(_)
-        | Event::Left(_)
-        | Event::Confirm(_)
-        | Event::Refuse(_)
-        | Event::Released(_)
-        | Event::Detect(_) => false,
-    }
-}
-
 /// Whether a step changed nothing: it asked, or was refused. That none is free says enough, but of a call that isn't there.
 fn changed_nothing(step: Step, is_of_nobody: bool) -> bool {
     match step {
-        Step::Asked(event, reply) => is_question(event) || !reply.is_accepted(),
+        Step::Asked(event, reply) => facts_of(event).is_question || !reply.is_accepted(),
         Step::NoneFree(..) => is_of_nobody,
     }
 }

@@ -2,6 +2,7 @@
 use crate::interrupted::Interruption;
 use lab_script::script::Side;
 use radio_book::event::{Event, Reply};
+use radio_book::facts::facts_of;
 use run_listeners::{Source, Turn};
 use std::alloc::{AllocError, Allocator, Global};
 use trace_text::trace::Step;
@@ -68,27 +69,16 @@ impl<A: Allocator + Copy> OpenAttempts<A> {
 
     /// An event was accepted, at a place of all that its controller was asked.
     fn accept(&mut self, side: Side, opening: usize, event: Event) -> Result<(), AllocError> {
-        match event {
-            Event::Take(call, _, _) | Event::Require(call) => self.open.push(Open {
+        let facts = facts_of(event);
+        if let Some((call, _)) = facts.opens {
+            self.open.push(Open {
                 side,
                 call,
                 opening,
-            })?,
-            Event::Undo(call, _) | Event::Complete(call) | Event::Left(call) => {
-                self.end(side, call);
-            }
-            Event::Open(..)
-            | Event::Clear(_)
-            | Event::Look(_)
-            | Event::Reserve(..)
-            | Event::Activate(_)
-            | Event::Command(_)
-            | Event::Confirm(_)
-            | Event::Refuse(_)
-            | Event::Detect(_)
-            | Event::Released(_)
-            | Event::Owner(_)
-            | Event::Order(_) => {}
+            })?;
+        }
+        if let Some(call) = facts.ends {
+            self.end(side, call);
         }
         Ok(())
     }

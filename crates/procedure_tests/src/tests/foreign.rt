@@ -3,11 +3,10 @@ ghost use Rattle.std.specs.Prelude.{[]};
 
 use super::controllers::{are_handled, empty_desk, input_of, sent_lines, shared_site};
 use crate::leaving::Leaving;
-use channel_fsm::Rate;
 use exchange::Fault;
 use ho_procedure::controller::Controller;
 use ho_procedure::view::DeskView;
-use radio_book::event::{Event, Kind};
+use radio_book::ask::Ask;
 use radio_desk::desk::DeskFault;
 use radio_desk::seat::Receipt;
 use sample_sites::THREE_CHANNELS;
@@ -26,30 +25,7 @@ impl DeskView for Elsewhere {
 
     ghost judged = { λ _ _ _. Unit };
 
-    fn judge(&mut self, _event: Event) -> Result<Receipt, DeskFault> {
-        Err(DeskFault::Foreign(7))
-    }
-
-    fn judge_take(
-        &mut self,
-        _call: u16,
-        _kind: Kind,
-        _cell: u8,
-        _rate: Rate,
-    ) -> Result<Option<Receipt>, DeskFault> {
-        Err(DeskFault::Foreign(7))
-    }
-
-    fn judge_open(
-        &mut self,
-        _call: u16,
-        _cell: u8,
-        _rate: Rate,
-    ) -> Result<Option<Receipt>, DeskFault> {
-        Err(DeskFault::Foreign(7))
-    }
-
-    fn judge_reserve(&mut self, _call: u16) -> Result<Receipt, DeskFault> {
+    fn ask(&mut self, _ask: Ask) -> Result<Option<Receipt>, DeskFault> {
         Err(DeskFault::Foreign(7))
     }
 }

@@ -110,11 +110,9 @@ impl<T: Tables> Records<T> {
     pub(super) fn owner(&self, x: ChanId) -> Reply
         ensures { result ≡ reply_to self.now (event.Owner x) }
     {
-        match self.state_of(x) {
-            ChanState::Held(call) | ChanState::Pending(call) | ChanState::On(call) => {
-                Reply::Owned(call)
-            }
-            ChanState::Free | ChanState::Off => Reply::Refused(Refusal::Unexpected(x)),
+        match self.owner_of(x) {
+            Some(call) => Reply::Owned(call),
+            None => Reply::Refused(Refusal::Unexpected(x)),
         }
     }
 }
