@@ -325,7 +325,7 @@ So where a file before the last one lacks a line.
 
 An old file that somebody removed hinders none.
 
-  $ mkfifo in2; ./lab live examples/two_cells.toml --journal cc --history 1 --keep 2 <in2 >said & exec 3>in2
+  $ rm said; mkfifo in2; ./lab live examples/two_cells.toml --journal cc --history 1 --keep 2 <in2 >said & exec 3>in2
   $ for n in 1 2 3 4 5 6; do
   >   echo clear $n >&3; until grep -q "^in clear $n" said; do sleep 0.1; done
   >   if [ $n = 3 ]; then rm cc/00000000000000000002.journal; fi
@@ -338,9 +338,9 @@ An old file that somebody removed hinders none.
 A journal's folder is known by more than its path: where it is moved its files go with it. None comes into another folder at that
 path, and none is removed there.
 
-  $ told() { until grep -q "^in clear $1" said || grep -q ends said; do sleep 0.1; done; }
-  $ tell() { for n in "$@"; do echo clear $n >&4; told $n; done; }
-  $ mkfifo in4; ./lab live examples/two_cells.toml --journal moved --history 1 --keep 1 <in4 >said 2>&1 & exec 4>in4
+  $ told() { until grep -qs -e "^in clear $1" -e 'controller ends' said why; do sleep 0.1; done; }
+  $ tell() { for n in "$@"; do (trap '' PIPE; echo clear $n >&4); told $n; done; }
+  $ rm -f said why; mkfifo in4; ./lab live examples/two_cells.toml --journal moved --history 1 --keep 1 <in4 >said 2>&1 & exec 4>in4
   $ tell 1; mv moved away; for n in 1 2; do echo clear 9; done | ./lab live examples/two_cells.toml --journal moved --history 1 >/dev/null
   $ touch moved/begun.tmp; cp -r moved another; tell 2 3 4; exec 4>&-; wait
   $ diff -r moved another; ls away
@@ -360,14 +360,14 @@ locked, or isn't there.
   00000000000000000003.journal
   lock
   $ rm -r moved away another; echo clear 9 | ./lab live examples/two_cells.toml --journal second >/dev/null; cp -r second another
-  $ mkfifo in5; bare ./lab live examples/two_cells.toml --journal moved --history 2 <in5 >said 2>why & exec 4>in5
+  $ rm said why; mkfifo in5; bare ./lab live examples/two_cells.toml --journal moved --history 2 <in5 >said 2>why & exec 4>in5
   $ tell 1; mv moved away; mv second moved; tell 2; exec 4>&-; wait; diff -r moved another; cat said; tail -1 why
   in clear 1
   event look 1 -> refused 1
   in clear 2
   event look 2 -> refused 1
   moved: the folder at this path isn't the one that was locked; the controller ends
-  $ mkfifo in6; bare ./lab live examples/two_cells.toml --journal gone --history 2 --journal-lost go-on <in6 >said 2>why & exec 4>in6
+  $ rm said why; mkfifo in6; bare ./lab live examples/two_cells.toml --journal gone --history 2 --journal-lost go-on <in6 >said 2>why & exec 4>in6
   $ tell 1; mv gone gone.away; tell 2 3; exec 4>&-; wait; sed 1,4d said; tail -1 why; ls gone
   in clear 3
   event look 3 -> refused 1
