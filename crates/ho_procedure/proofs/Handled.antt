@@ -46,7 +46,7 @@ pub width_kept : {D A : Type 0} (log : D → List Entry) (says : D → List Entr
 unfolding Goes
 width_kept log says w w' p u f = f.width
 
--- the same of a row that was stopped: the input can't be read
+-- a row that was stopped, since the input can't be read, leaves view and windows as they were
 pub refused : {A D : Type 0} (log : D → List Entry) (says : D → List Entry → Claim → Type 0) (w : Work D A) (IsRow : Plan → Type 0) (CantBeRead : Link → Bad → Type 0) (MayRefuse : Type 0) (w' : Work D A) (l : Link) (b : Bad)
     → Stopped log says w IsRow CantBeRead MayRefuse w' (stop.Unreadable l b) → (w'.view ≡ w.view) × (w'.windows ≡ w.windows)
 refused log says w IsRow CantBeRead MayRefuse w' l b f = (ap (λ x. x.view) f.1, ap (λ x. x.windows) f.1)

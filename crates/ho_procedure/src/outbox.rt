@@ -191,7 +191,7 @@ impl<A: Allocator + Copy> Outbox<A> {
         put_abis(&mut self.messages, chan, text);
     }
 
-    /// The same with CHANNEL RELEASE.
+    /// DATA REQUEST with CHANNEL RELEASE of a cause.
     pub(crate) fn channel_release(&mut self, chan: ChanId, cause: u8)
         requires room { 1 ≤ self.old.room }
         requires timeslot { chan.tn < 8 }
