@@ -130,7 +130,7 @@ fn audit_told<A: Allocator + Copy, W: Write>(
     }
 }
 
-/// The same of a trace that was read.
+/// Audits a trace that was read.
 fn audit_read<A: Allocator + Copy, W: Write>(
     alloc: A,
     book: Book<A>,

@@ -55,7 +55,7 @@ abbrev pub all_leave : WorldState → Place → List Answer → Outcome
 all_leave w x [] = silent w
 all_leave w x (answer ∷ answers) = followed (leaves w x answer) (all_leave (leaves w x answer).world x answers)
 
--- The same where no hold keeps any: something befalls the first alone.
+-- what departs where no hold keeps any: something befalls the first alone
 abbrev pub all_departed : Impairment → Place → List Answer → List (Place × List ℕ)
 all_departed i x [] = []
 all_departed i x (answer ∷ answers) = departed i x answer ++ all_departed unimpaired x answers
