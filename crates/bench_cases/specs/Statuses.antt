@@ -25,17 +25,17 @@ abbrev pub of_abis : RslFault → Fault
 of_abis rsl.NoMemory = NoMemory
 of_abis _ = Words
 
--- the same of a fault of a radio resource message
+-- what a fault of a radio resource message comes to
 abbrev pub of_radio : RrFault → Fault
 of_radio rr.NoMemory = NoMemory
 of_radio _ = Words
 
--- the same of a fault of a message on A
+-- what a fault of a message on A comes to
 abbrev pub of_a : BssmapFault → Fault
 of_a bssmap.NoMemory = NoMemory
 of_a _ = Words
 
--- the same of a fault of the procedure; a desk that isn't the controller's own can't be asked
+-- what a fault of the procedure comes to; a desk that isn't the controller's own can't be asked
 abbrev pub of_procedure : {A : Type 0} → Stopped A → Fault
 of_procedure (stopped.NoMemory owed) = NoMemory
 of_procedure (stopped.Undecoded link bad) = Words

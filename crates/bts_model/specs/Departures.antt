@@ -32,7 +32,7 @@ used_up slot = if is_impaired slot.impairment then Some (record slot { impairmen
 abbrev pub keeping : List Hold → ℕ → Answer → List Hold
 keeping holds n answer = unwrap_or (option_map (λ h. slice_set holds n (record h { kept = Some answer })) (slice_get holds n)) holds
 
--- the same, where there is such a hold
+-- an answer is kept by a hold, where there is such a one
 abbrev pub kept_in : List Hold → Option ℕ → Answer → List Hold
 kept_in holds None answer = holds
 kept_in holds (Some n) answer = keeping holds n answer
