@@ -4,6 +4,7 @@
 
 ghost use Rattle.std.specs.Prelude.{◌≡◌, IfOk, OnErr};
 ghost use Rattle.exchange.specs.Inputs.{HoldsOctets};
+ghost use Rattle.exchange.specs.Outputs.{octets_sent};
 
 use attempt_journal::Timer;
 use bssmap_messages::BssmapFault;
@@ -82,6 +83,22 @@ pub enum Outbound<A: Allocator = Global> {
     Abis { cell: u8, trx: u8, bytes: Octets<A> },
     /// A message on A about a call (TS 48.008 clause 3.2.1).
     A { call: u16, bytes: Octets<A> },
+}
+
+impl<A: Allocator> Outbound<A> {
+    /// Its octets, which are moved out.
+    pub fn into_octets(self) -> Octets<A>
+        ensures octets { result ≡ octets_sent self }
+    {
+        match self {
+            Outbound::Abis {
+                cell: _,
+                trx: _,
+                bytes,
+            } => bytes,
+            Outbound::A { call: _, bytes } => bytes,
+        }
+    }
 }
 
 // By hand, as that of a controller.

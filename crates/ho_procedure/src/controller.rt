@@ -7,8 +7,8 @@ ghost use Rattle.ho_procedure.specs.Handling.{StopsBy, StopsWith, IsRow, IsUndec
 ghost use Rattle.ho_procedure.specs.Plan.{Plan, Ends, At};
 ghost use Rattle.ho_procedure.specs.Going.{last_reports};
 
-use crate::following::follow;
 pub use crate::following::Stop;
+use crate::following::follow;
 use crate::outbox::Outbox;
 use crate::view::{DeskView, OwnDesk};
 use crate::windows::Windows;

@@ -76,25 +76,10 @@ impl<A: Allocator> Model for Outbox<A> {
         (0 < o.buffers → longest_rr ≤ vec_capacity o.inner) };
 }
 
-/// The octets of a message, with the room that they have.
-fn buffer_of<A: Allocator>(message: Outbound<A>) -> Vec<u8, A> {
-    match message {
-        Outbound::Abis {
-            cell: _,
-            trx: _,
-            bytes,
-        } => bytes.into_vec(),
-        Outbound::A { call: _, bytes } => bytes.into_vec(),
-    }
-}
-
 /// Puts back the buffers of messages that were sent.
-fn put_back_all<A: Allocator + Copy>(
-    buffers: &mut Buffers<A>,
-    sent: &mut Vec<Outbound<A>, A>,
-) {
+fn put_back_all<A: Allocator + Copy>(buffers: &mut Buffers<A>, sent: &mut Vec<Outbound<A>, A>) {
     for message in sent.drain(..) {
-        buffers.put_back(buffer_of(message));
+        buffers.put_back(message.into_octets().into_vec());
     }
 }
 

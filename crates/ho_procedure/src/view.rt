@@ -97,7 +97,12 @@ pub trait DeskView {
     }
 
     /// Asks an Open on some channel of a cell that is free at a rate. `None` where there is none, and faults, as of `ask`.
-    final fn judge_open(&mut self, call: u16, cell: u8, rate: Rate) -> Result<Option<Receipt>, DeskFault>
+    final fn judge_open(
+        &mut self,
+        call: u16,
+        cell: u8,
+        rate: Rate,
+    ) -> Result<Option<Receipt>, DeskFault>
         ensures ok { IfOk result (λ answer. MatchOption answer
             ((log self.new ≡ log self.old) × says self.old (log self.old) (NoneFree cell rate))
             (λ r. ((x : ChanId) × (x.cell ≡ cell) × (rate_of x.sub ≡ rate) × (r.event ≡ Event.Open call x)) ×
