@@ -10,7 +10,7 @@ use Rattle.ho_candidates.specs.Candidates.{IsCandidate, SomeCandidate}
 use Rattle.ho_candidates.specs.Order.{StandsBefore}
 use Rattle.radio_book.specs.declared.event.Kind.{Kind}
 use Rattle.radio_book.specs.declared.event.Event.{Event}
-use Rattle.radio_book.specs.declared.event.Event.TheVariants.{Reserve}
+use Rattle.radio_book.specs.declared.event.Event.TheVariants.{Open, Take, Reserve}
 use Rattle.radio_book.specs.declared.event.Reply.{Reply}
 use Rattle.radio_book.specs.Facts.{event_facts}
 use Rattle.radio_book.specs.Kinds.{is_accepted}
