@@ -1,5 +1,5 @@
 -- Facts of notes of where no channel was free.
-use Rattle.std.proofs.Common.{◌≡◌, ◌++◌, ◌∷◌, ℕ, List, [], Option, Some, None, Result, Ok, Err, OnErr, IfOk, IfErr, MatchOption, length, rules, refl, sym, ap, subst, ◌∙◌, append_assoc, append-nil}
+use Rattle.std.proofs.Common.{◌≡◌, ◌++◌, ◌∷◌, ℕ, List, [], Option, Some, None, Result, Ok, Err, OnErr, IfOk, MatchOption, length, rules, refl, sym, ap, subst, ◌∙◌, append_assoc, append-nil}
 use Rattle.std.specs.List.{All}
 use Rattle.std.proofs.lemmas.List.Elements.{All-weaker, All-push}
 use Rattle.timeslots.specs.declared.Rate.{Rate}
@@ -10,9 +10,9 @@ use Rattle.radio_book.specs.State.{State}
 use Rattle.radio_desk.specs.declared.desk.DeskFault.{DeskFault}
 use Rattle.radio_desk.specs.Receipts.{Receipt}
 use Rattle.radio_desk.specs.Desk.{DeskState}
-use Rattle.ho_procedure.specs.Claims.{Entry, Claim, NoneFree, Chosen, Opening, UnknownReceipt, MayBeRefused, TakeMayBeRefused, IsFor, SaysNone, SaysChosen, SaysRefused, IsTrueAfter}
+use Rattle.ho_procedure.specs.Claims.{Entry, Claim, NoneFree, Chosen, Opening, UnknownReceipt, MayBeRefused, TakeMayBeRefused, IsFor, SaysNone, SaysChosen, IsTrueAfter}
 use Rattle.lab_runs.specs.declared.noting.Note.{Note}
-use Rattle.lab_runs.specs.Notes.{NotingState, IsTrueNote, sought_by, notes_after}
+use Rattle.lab_runs.specs.Notes.{NotingState, IsTrueNote, sought_by}
 use Rattle.lab_runs.specs.Turns.{IsSaidAfter, says}
 
 -- what is true of the book that it opened with now was true before
@@ -32,30 +32,39 @@ still_says d d' said es (UnknownReceipt place) h = said es (UnknownReceipt place
 still_says d d' said es (MayBeRefused e) h = said es (MayBeRefused e) h
 still_says d d' said es (TakeMayBeRefused cell rate) h = tt
 
--- memory may be refused for a note wherever a channel is looked for
-pub may_note : (v : NotingState) (a : Ask) (cell : ℕ) (rate : Rate) → sought_by a ≡ Some (cell, rate) → SaysRefused (says v v.desk.history) a
-may_note v (ask.Event named) cell rate is = absurd (search (rules, is))
-may_note v (ask.Take c kind _ _) cell rate is = tt
-may_note v (ask.Open c _ _) cell rate is = tt
-may_note v (ask.Reserve c) cell rate is = absurd (search (rules, is))
+-- what is true of a view's book it says, too
+pub said_too : (opening : State) (log : List Entry) (claim : Claim) → IsTrueAfter opening log claim → IsSaidAfter opening log claim
+said_too opening log (NoneFree cell rate) h = h
+said_too opening log (Chosen e) h = h
+said_too opening log (Opening book) h = h
+said_too opening log (UnknownReceipt place) h = h
+said_too opening log (MayBeRefused e) h = h
+said_too opening log (TakeMayBeRefused cell rate) h = tt
+
+-- the cell and the rate of a pair, if there is one
+abbrev cell_or : ℕ → Option (ℕ × Rate) → ℕ
+cell_or other None = other
+cell_or other (Some pair) = pair.0
+
+abbrev rate_or : Rate → Option (ℕ × Rate) → Rate
+rate_or other None = other
+rate_or other (Some pair) = pair.1
 
 -- where none is free for a channel that is asked for, none is at its rate in its cell
 pub none_at : (opening : State) (log : List Entry) (a : Ask) (cell : ℕ) (rate : Rate) → sought_by a ≡ Some (cell, rate) → SaysNone (IsTrueAfter opening log) a → IsTrueAfter opening log (NoneFree cell rate)
 none_at opening log (ask.Event named) cell rate is none = absurd none
 none_at opening log (ask.Take c kind k r) cell rate is none =
-    let e : Some (k, r) ≡ Some (cell, rate) = is in
-    let same_cell : k ≡ cell = cc in
-    let same_rate : r ≡ rate = cc in
+    let same_cell : k ≡ cell = ap (cell_or k) is in
+    let same_rate : r ≡ rate = ap (rate_or r) is in
     rw (← same_cell, ← same_rate) none
 none_at opening log (ask.Open c k r) cell rate is none =
-    let e : Some (k, r) ≡ Some (cell, rate) = is in
-    let same_cell : k ≡ cell = cc in
-    let same_rate : r ≡ rate = cc in
+    let same_cell : k ≡ cell = ap (cell_or k) is in
+    let same_rate : r ≡ rate = ap (rate_or r) is in
     rw (← same_cell, ← same_rate) none
 none_at opening log (ask.Reserve c) cell rate is none = absurd none
 
 -- what an answer adds to a history
-abbrev entries_of : Option Receipt → List Entry
+abbrev pub entries_of : Option Receipt → List Entry
 entries_of None = []
 entries_of (Some r) = (r.event, r.reply) ∷ []
 
@@ -71,12 +80,6 @@ answered d d' a (Ok (Some r)) ok answer is =
     let e : Ok (Some r) ≡ Ok answer = is in
     let some : Some r ≡ answer = cc in
     rw (← some) ok.2
-
--- nothing is noted where no channel was looked for
-pub not_sought : (v : NotingState) (a : Ask) (result : Result (Option Receipt) DeskFault) → sought_by a ≡ None → IfOk result (λ answer. v.notes ≡ notes_after v a answer)
-not_sought v a (Err f) is = tt
-not_sought v a (Ok (Some r)) is = refl
-not_sought v a (Ok None) is = rw is (sym (append-nil v.notes))
 
 stays_true : (d d' : DeskState) (more : List Entry) (n : Note) → d'.opening ≡ d.opening → d'.history ≡ d.history ++ more → IsTrueNote d n → IsTrueNote d' n
 stays_true d d' more n opening grown h = record {
