@@ -1,5 +1,5 @@
 -- Octets that can't be read are never anything else.
-use Rattle.std.proofs.Common.{◌≡◌, ◌≢◌, ◌⊎◌, inl, inr, ℕ, List, Option, Some, None, Result, Ok, Err, OnOk, IfErr, refl, sym, ◌∙◌, ap, subst}
+use Rattle.std.proofs.Common.{◌≡◌, ◌≢◌, ◌⊎◌, inl, inr, ℕ, List, [], Option, Some, None, Result, Ok, Err, OnOk, IfErr, refl, sym, ◌∙◌, ap, subst}
 use Rattle.octet_elements.specs.Texts.{ReadingIsUnique}
 use Rattle.rr_elements.specs.Faults.{FaultIsUnique}
 use Rattle.rr_messages.specs.declared.message.Rr.{Rr}
