@@ -1,0 +1,4 @@
+pub mod Acts
+pub mod Hearing
+pub mod Settling
+pub mod Bars
