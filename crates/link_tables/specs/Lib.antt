@@ -2,3 +2,4 @@ pub mod Acts
 pub mod Hearing
 pub mod Settling
 pub mod Bars
+pub mod Laws

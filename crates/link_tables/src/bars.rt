@@ -12,12 +12,24 @@ pub fn bar(lchan: Lchan, book: ChanState, is_from_air: bool) -> Step
 {
     let start = match lchan {
         Lchan::Rest => Some(Act::Start(Timer::Bar)),
-        Lchan::Activating | Lchan::On | Lchan::Mobile | Lchan::Guard | Lchan::Releasing | Lchan::Closing => None,
+        Lchan::Activating
+        | Lchan::On
+        | Lchan::Mobile
+        | Lchan::Guard
+        | Lchan::Releasing
+        | Lchan::Closing => None,
         Lchan::Reopening | Lchan::Lost => None,
     };
     match book {
-        ChanState::Free => Step { acts: [Some(Act::OpenBar), start, None], next: lchan },
-        ChanState::Held(_) if is_from_air => Step { acts: [Some(Act::BarByHolder), start, None], next: lchan },
-        ChanState::Held(_) | ChanState::Pending(_) | ChanState::On(_) | ChanState::Off => Step::none(lchan),
+        ChanState::Free => Step {
+            acts: [Some(Act::OpenBar), start, None],
+            next: lchan,
+        },
+        ChanState::Held(_) if is_from_air => Step {
+            acts: [Some(Act::BarByHolder), start, None],
+            next: lchan,
+        },
+        ChanState::Held(_) | ChanState::Pending(_) | ChanState::On(_) | ChanState::Off =>
+            Step::none(lchan),
     }
 }

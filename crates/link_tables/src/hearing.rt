@@ -7,10 +7,15 @@ ghost use Rattle.link_tables.specs.Acts.{one, two, nothing};
 ghost use Rattle.link_tables.specs.Hearing.{heard_step, nobody, barred, arrives};
 
 use crate::{Act, Heard, Holder, Lchan, Step, Timer};
-use Act::{Bar, Count, EndBar, FailInPlace, Give, KeepFailure, OpenBar, Pass, RefuseInPlace, ReleaseInPlace};
-use Act::{SendActivation, SendRelease, Start, Stop};
-use Heard::{ActivationAck, ActivationNack, BarAsked, ConnectionFailure, DataIndication, EstablishIndication, Expired};
-use Heard::{HandoverComplete, HandoverDetection, LinkLost, LinkUp, MeasurementResult, ReleaseAck, ReleaseIndication, UnbarAsked};
+use Act::{
+    Bar, Count, EndBar, FailInPlace, Give, KeepFailure, OpenBar, Pass, RefuseInPlace,
+    ReleaseInPlace, SendActivation, SendRelease, Start, Stop,
+};
+use Heard::{
+    ActivationAck, ActivationNack, BarAsked, ConnectionFailure, DataIndication,
+    EstablishIndication, Expired, HandoverComplete, HandoverDetection, LinkLost, LinkUp,
+    MeasurementResult, ReleaseAck, ReleaseIndication, UnbarAsked,
+};
 use Holder::{Barred, Call, Nobody};
 use Lchan::{Activating, Closing, Guard, Lost, Mobile, On, Releasing, Reopening, Rest};
 
@@ -50,7 +55,9 @@ fn at_rest(heard: Heard, holder: Holder) -> Step
         UnbarAsked => unbar(Rest, holder),
         LinkLost | LinkUp => Step::none(Rest),
         ActivationNack | ReleaseAck | ReleaseIndication => Step::one(Count, Rest),
-        Expired(Timer::Activation | Timer::T3109 | Timer::T3111 | Timer::Release) => Step::one(Count, Rest),
+        Expired(Timer::Activation | Timer::T3109 | Timer::T3111 | Timer::Release) => Step::one(
+            Count, Rest,
+        ),
     }
 }
 
@@ -68,7 +75,9 @@ fn stray(holder: Holder) -> Step
 /// Ends the bar of a channel, where it has one.
 fn unbar(lchan: Lchan, holder: Holder) -> Step
     ensures step { result ≡ record {
-        acts = (if barred holder then two (act.Stop timer.Bar) act.EndBar else one act.Count); next = lchan } }
+      acts = (if barred holder then two (act.Stop timer.Bar) act.EndBar else one act.Count);
+      next = lchan;
+    } }
 {
     match holder {
         Barred => Step::two(Stop(Timer::Bar), EndBar, lchan),
@@ -86,9 +95,19 @@ fn activating(heard: Heard, holder: Holder) -> Step
         Expired(Timer::Activation) => Step::three(SendRelease, RefuseInPlace, Bar, Closing),
         LinkLost => Step::two(Stop(Timer::Activation), RefuseInPlace, Rest),
         LinkUp => Step::none(Activating),
-        ReleaseAck | ConnectionFailure | HandoverDetection | HandoverComplete | MeasurementResult | DataIndication
-        | EstablishIndication | ReleaseIndication | BarAsked | UnbarAsked => Step::one(Count, Activating),
-        Expired(Timer::T3109 | Timer::T3111 | Timer::Release | Timer::Bar) => Step::one(Count, Activating),
+        ReleaseAck
+        | ConnectionFailure
+        | HandoverDetection
+        | HandoverComplete
+        | MeasurementResult
+        | DataIndication
+        | EstablishIndication
+        | ReleaseIndication
+        | BarAsked
+        | UnbarAsked => Step::one(Count, Activating),
+        Expired(Timer::T3109 | Timer::T3111 | Timer::Release | Timer::Bar) => Step::one(
+            Count, Activating,
+        ),
     }
 }
 
@@ -113,7 +132,8 @@ fn on(heard: Heard, holder: Holder) -> Step
         DataIndication | EstablishIndication | ReleaseIndication => Step::one(Pass, On),
         LinkUp => Step::none(On),
         ActivationAck | ActivationNack | ReleaseAck | BarAsked | UnbarAsked => Step::one(Count, On),
-        Expired(Timer::Activation | Timer::T3109 | Timer::T3111 | Timer::Release | Timer::Bar) => Step::one(Count, On),
+        Expired(Timer::Activation | Timer::T3109 | Timer::T3111 | Timer::Release | Timer::Bar) =>
+            Step::one(Count, On),
     }
 }
 
@@ -139,9 +159,19 @@ fn mobile(heard: Heard, holder: Holder) -> Step
         ReleaseAck => Step::two(Stop(Timer::T3109), Give, Rest),
         LinkLost => Step::two(Stop(Timer::T3109), ReleaseInPlace, Rest),
         LinkUp => Step::none(Mobile),
-        ActivationAck | ActivationNack | ConnectionFailure | HandoverDetection | HandoverComplete | MeasurementResult
-        | DataIndication | EstablishIndication | BarAsked | UnbarAsked => Step::one(Count, Mobile),
-        Expired(Timer::Activation | Timer::T3111 | Timer::Release | Timer::Bar) => Step::one(Count, Mobile),
+        ActivationAck
+        | ActivationNack
+        | ConnectionFailure
+        | HandoverDetection
+        | HandoverComplete
+        | MeasurementResult
+        | DataIndication
+        | EstablishIndication
+        | BarAsked
+        | UnbarAsked => Step::one(Count, Mobile),
+        Expired(Timer::Activation | Timer::T3111 | Timer::Release | Timer::Bar) => Step::one(
+            Count, Mobile,
+        ),
     }
 }
 
@@ -154,9 +184,20 @@ fn guard(heard: Heard, holder: Holder) -> Step
         ReleaseAck => Step::two(Stop(Timer::T3111), Give, Rest),
         LinkLost => Step::two(Stop(Timer::T3111), ReleaseInPlace, Rest),
         LinkUp => Step::none(Guard),
-        ActivationAck | ActivationNack | ConnectionFailure | HandoverDetection | HandoverComplete | MeasurementResult
-        | DataIndication | EstablishIndication | ReleaseIndication | BarAsked | UnbarAsked => Step::one(Count, Guard),
-        Expired(Timer::Activation | Timer::T3109 | Timer::Release | Timer::Bar) => Step::one(Count, Guard),
+        ActivationAck
+        | ActivationNack
+        | ConnectionFailure
+        | HandoverDetection
+        | HandoverComplete
+        | MeasurementResult
+        | DataIndication
+        | EstablishIndication
+        | ReleaseIndication
+        | BarAsked
+        | UnbarAsked => Step::one(Count, Guard),
+        Expired(Timer::Activation | Timer::T3109 | Timer::Release | Timer::Bar) => Step::one(
+            Count, Guard,
+        ),
     }
 }
 
@@ -169,9 +210,20 @@ fn releasing(heard: Heard, holder: Holder) -> Step
         Expired(Timer::Release) => Step::two(ReleaseInPlace, Bar, Closing),
         LinkLost => Step::two(Stop(Timer::Release), ReleaseInPlace, Rest),
         LinkUp => Step::none(Releasing),
-        ActivationAck | ActivationNack | ConnectionFailure | HandoverDetection | HandoverComplete | MeasurementResult
-        | DataIndication | EstablishIndication | ReleaseIndication | BarAsked | UnbarAsked => Step::one(Count, Releasing),
-        Expired(Timer::Activation | Timer::T3109 | Timer::T3111 | Timer::Bar) => Step::one(Count, Releasing),
+        ActivationAck
+        | ActivationNack
+        | ConnectionFailure
+        | HandoverDetection
+        | HandoverComplete
+        | MeasurementResult
+        | DataIndication
+        | EstablishIndication
+        | ReleaseIndication
+        | BarAsked
+        | UnbarAsked => Step::one(Count, Releasing),
+        Expired(Timer::Activation | Timer::T3109 | Timer::T3111 | Timer::Bar) => Step::one(
+            Count, Releasing,
+        ),
     }
 }
 
@@ -186,9 +238,18 @@ fn closing(heard: Heard, holder: Holder) -> Step
         },
         UnbarAsked => unbar(Closing, holder),
         LinkUp => Step::none(Closing),
-        ActivationAck | ActivationNack | ConnectionFailure | HandoverDetection | HandoverComplete | MeasurementResult
-        | DataIndication | EstablishIndication | ReleaseIndication | BarAsked => Step::one(Count, Closing),
-        Expired(Timer::Activation | Timer::T3109 | Timer::T3111 | Timer::Release | Timer::Bar) => Step::one(Count, Closing),
+        ActivationAck
+        | ActivationNack
+        | ConnectionFailure
+        | HandoverDetection
+        | HandoverComplete
+        | MeasurementResult
+        | DataIndication
+        | EstablishIndication
+        | ReleaseIndication
+        | BarAsked => Step::one(Count, Closing),
+        Expired(Timer::Activation | Timer::T3109 | Timer::T3111 | Timer::Release | Timer::Bar) =>
+            Step::one(Count, Closing),
     }
 }
 
@@ -201,9 +262,20 @@ fn reopening(heard: Heard, holder: Holder) -> Step
         Expired(Timer::Activation) => Step::two(RefuseInPlace, Bar, Closing),
         LinkLost => Step::two(Stop(Timer::Activation), RefuseInPlace, Rest),
         LinkUp => Step::none(Reopening),
-        ActivationAck | ActivationNack | ConnectionFailure | HandoverDetection | HandoverComplete | MeasurementResult
-        | DataIndication | EstablishIndication | ReleaseIndication | BarAsked | UnbarAsked => Step::one(Count, Reopening),
-        Expired(Timer::T3109 | Timer::T3111 | Timer::Release | Timer::Bar) => Step::one(Count, Reopening),
+        ActivationAck
+        | ActivationNack
+        | ConnectionFailure
+        | HandoverDetection
+        | HandoverComplete
+        | MeasurementResult
+        | DataIndication
+        | EstablishIndication
+        | ReleaseIndication
+        | BarAsked
+        | UnbarAsked => Step::one(Count, Reopening),
+        Expired(Timer::T3109 | Timer::T3111 | Timer::Release | Timer::Bar) => Step::one(
+            Count, Reopening,
+        ),
     }
 }
 
@@ -215,8 +287,10 @@ fn lost(heard: Heard, holder: Holder) -> Step
         HandoverDetection | HandoverComplete => arrival(Lost, holder),
         DataIndication | EstablishIndication | ReleaseIndication => Step::one(Pass, Lost),
         LinkLost | LinkUp => Step::none(Lost),
-        ActivationAck | ActivationNack | ReleaseAck | ConnectionFailure | MeasurementResult => Step::one(Count, Lost),
+        ActivationAck | ActivationNack | ReleaseAck | ConnectionFailure | MeasurementResult =>
+            Step::one(Count, Lost),
         BarAsked | UnbarAsked => Step::one(Count, Lost),
-        Expired(Timer::Activation | Timer::T3109 | Timer::T3111 | Timer::Release | Timer::Bar) => Step::one(Count, Lost),
+        Expired(Timer::Activation | Timer::T3109 | Timer::T3111 | Timer::Release | Timer::Bar) =>
+            Step::one(Count, Lost),
     }
 }

@@ -4,8 +4,10 @@ ghost use Rattle.channel_fsm.specs.declared.ChanState.TheVariants as book;
 ghost use Rattle.link_tables.specs.Settling.{settled_step, is_pending};
 
 use crate::{Act, ChanState, Circumstances, Lchan, Step, Timer};
-use Act::{Bar, KeepActivation, RefuseInPlace, ReleaseInPlace, SendActivation, SendChannelRelease, SendDeactivateSacch};
-use Act::{SendRelease, Start, Stop};
+use Act::{
+    Bar, KeepActivation, RefuseInPlace, ReleaseInPlace, SendActivation, SendChannelRelease,
+    SendDeactivateSacch, SendRelease, Start, Stop,
+};
 use Lchan::{Activating, Closing, Guard, Lost, Mobile, On, Releasing, Reopening, Rest};
 
 /// What a channel does behind a turn of the controller, and its state behind that: the rows of docs/LINKS.md for what the book
@@ -27,12 +29,21 @@ fn idle(lchan: Lchan, before: ChanState, circumstances: Circumstances) -> Step
 {
     let stop = lchan.timer().map(Stop);
     if !circumstances.has_link {
-        return Step { acts: [stop, None, None], next: Rest };
+        return Step {
+            acts: [stop, None, None],
+            next: Rest,
+        };
     }
     match lchan {
         Rest | Closing => Step::none(lchan),
-        Activating | On | Mobile | Guard | Lost => Step { acts: [stop, Some(SendRelease), None], next: Closing },
-        Releasing | Reopening => Step { acts: [stop, None, None], next: Closing },
+        Activating | On | Mobile | Guard | Lost => Step {
+            acts: [stop, Some(SendRelease), None],
+            next: Closing,
+        },
+        Releasing | Reopening => Step {
+            acts: [stop, None, None],
+            next: Closing,
+        },
     }
 }
 
@@ -42,7 +53,10 @@ fn pending(lchan: Lchan, before: ChanState, call: u16, circumstances: Circumstan
 {
     let stop = lchan.timer().map(Stop);
     if !circumstances.has_link {
-        return Step { acts: [stop, Some(RefuseInPlace), None], next: Rest };
+        return Step {
+            acts: [stop, Some(RefuseInPlace), None],
+            next: Rest,
+        };
     }
     // A bar uses no channel; and who asks still hasn't read the refusal that the station gave.
     let is_refused = circumstances.is_bar || is_pending(before);
@@ -52,8 +66,16 @@ fn pending(lchan: Lchan, before: ChanState, call: u16, circumstances: Circumstan
         Closing => Step::two(KeepActivation, Start(Timer::Activation), Reopening),
         On => Step::three(SendRelease, RefuseInPlace, Bar, Closing),
         Activating | Reopening => Step::none(lchan),
-        Mobile | Guard | Lost => Step { acts: [stop, Some(SendRelease), Some(RefuseInPlace)], next: Closing },
-        Releasing => Step::three(Stop(Timer::Release), KeepActivation, Start(Timer::Activation), Reopening),
+        Mobile | Guard | Lost => Step {
+            acts: [stop, Some(SendRelease), Some(RefuseInPlace)],
+            next: Closing,
+        },
+        Releasing => Step::three(
+            Stop(Timer::Release),
+            KeepActivation,
+            Start(Timer::Activation),
+            Reopening,
+        ),
     }
 }
 
@@ -85,12 +107,25 @@ fn off(lchan: Lchan, before: ChanState, circumstances: Circumstances) -> Step
     ensures off { result ≡ settled_step lchan before book.Off circumstances }
 {
     if !circumstances.has_link {
-        return Step { acts: [lchan.timer().map(Stop), Some(ReleaseInPlace), None], next: Rest };
+        return Step {
+            acts: [lchan.timer().map(Stop), Some(ReleaseInPlace), None],
+            next: Rest,
+        };
     }
     match lchan {
-        Activating => Step::three(Stop(Timer::Activation), SendRelease, Start(Timer::Release), Releasing),
+        Activating => Step::three(
+            Stop(Timer::Activation),
+            SendRelease,
+            Start(Timer::Release),
+            Releasing,
+        ),
         Reopening => Step::two(Stop(Timer::Activation), Start(Timer::Release), Releasing),
-        On if circumstances.said_channel_release => Step::three(SendChannelRelease, SendDeactivateSacch, Start(Timer::T3109), Mobile),
+        On if circumstances.said_channel_release => Step::three(
+            SendChannelRelease,
+            SendDeactivateSacch,
+            Start(Timer::T3109),
+            Mobile,
+        ),
         On | Lost => Step::two(SendRelease, Start(Timer::Release), Releasing),
         Rest | Closing => Step::one(ReleaseInPlace, lchan),
         Mobile | Guard | Releasing => Step::none(lchan),
