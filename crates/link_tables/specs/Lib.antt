@@ -2,4 +2,5 @@ pub mod Acts
 pub mod Hearing
 pub mod Settling
 pub mod Bars
+pub mod Failures
 pub mod Laws

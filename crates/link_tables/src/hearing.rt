@@ -1,20 +1,16 @@
 //! What a channel does where something is heard about it.
 ghost use Rattle.std.specs.Prelude.{◌≡◌, if◌then◌else◌};
 ghost use Rattle.link_tables.specs.declared.Lchan.TheVariants as state;
-ghost use Rattle.link_tables.specs.declared.Act.TheVariants as act;
+ghost use Rattle.link_tables.specs.declared.Heard.TheVariants as message;
 ghost use Rattle.link_tables.specs.declared.Timer.TheVariants as timer;
-ghost use Rattle.link_tables.specs.Acts.{one, two, nothing};
-ghost use Rattle.link_tables.specs.Hearing.{heard_step, nobody, barred, arrives};
+ghost use Rattle.link_tables.specs.declared.Act.TheVariants as act;
+ghost use Rattle.link_tables.specs.Acts.{nothing, one, two};
+ghost use Rattle.link_tables.specs.Hearing.{heard_step, nobody, barred, leaves, arrives, reports};
 
 use crate::{Act, Heard, Holder, Lchan, Step, Timer};
 use Act::{
     Bar, Count, EndBar, FailInPlace, Give, KeepFailure, OpenBar, Pass, RefuseInPlace,
     ReleaseInPlace, SendActivation, SendRelease, Start, Stop,
-};
-use Heard::{
-    ActivationAck, ActivationNack, BarAsked, ConnectionFailure, DataIndication,
-    EstablishIndication, Expired, HandoverComplete, HandoverDetection, LinkLost, LinkUp,
-    MeasurementResult, ReleaseAck, ReleaseIndication, UnbarAsked,
 };
 use Holder::{Barred, Call, Nobody};
 use Lchan::{Activating, Closing, Guard, Lost, Mobile, On, Releasing, Reopening, Rest};
@@ -24,44 +20,104 @@ use Lchan::{Activating, Closing, Guard, Lost, Mobile, On, Releasing, Reopening, 
 pub fn hear(lchan: Lchan, heard: Heard, holder: Holder) -> Step
     ensures table { result ≡ heard_step lchan heard holder }
 {
-    match lchan {
-        Rest => at_rest(heard, holder),
-        Activating => activating(heard, holder),
-        On => on(heard, holder),
-        Mobile => mobile(heard, holder),
-        Guard => guard(heard, holder),
-        Releasing => releasing(heard, holder),
-        Closing => closing(heard, holder),
-        Reopening => reopening(heard, holder),
-        Lost => lost(heard, holder),
+    match heard {
+        Heard::ActivationAck => activation_ack(lchan, holder),
+        Heard::ActivationNack => activation_nack(lchan, holder),
+        Heard::ReleaseAck => release_ack(lchan, holder),
+        Heard::ConnectionFailure => connection_failure(lchan, holder),
+        Heard::HandoverDetection => handover_detection(lchan, holder),
+        Heard::HandoverComplete => handover_complete(lchan, holder),
+        Heard::MeasurementResult => measurement_result(lchan, holder),
+        Heard::DataIndication => data_indication(lchan, holder),
+        Heard::EstablishIndication => establish_indication(lchan, holder),
+        Heard::ReleaseIndication => release_indication(lchan, holder),
+        Heard::Expired(timer) => expired(lchan, timer, holder),
+        Heard::LinkLost => link_lost(lchan, holder),
+        Heard::LinkUp => Step::none(lchan),
+        Heard::BarAsked => bar_asked(lchan, holder),
+        Heard::UnbarAsked => unbar_asked(lchan, holder),
     }
 }
 
-/// A station that speaks on a channel at rest has it active, by an activation that was given up, or by itself.
-fn at_rest(heard: Heard, holder: Holder) -> Step
-    ensures table { result ≡ heard_step state.Rest heard holder }
+impl Holder {
+    fn leaves(self) -> bool
+        ensures value { result ≡ leaves self }
+    {
+        match self {
+            Call(call) => call.leaves,
+            Nobody | Barred => false,
+        }
+    }
+
+    fn arrives(self) -> bool
+        ensures value { result ≡ arrives self }
+    {
+        match self {
+            Call(call) => call.arrives,
+            Nobody | Barred => false,
+        }
+    }
+
+    fn reports(self) -> bool
+        ensures value { result ≡ reports self }
+    {
+        match self {
+            Call(call) => call.reports,
+            Nobody | Barred => false,
+        }
+    }
+}
+
+fn activation_ack(lchan: Lchan, holder: Holder) -> Step
+    ensures table { result ≡ heard_step lchan message.ActivationAck holder }
 {
-    match heard {
-        ActivationAck | ConnectionFailure | HandoverDetection | HandoverComplete => stray(holder),
-        MeasurementResult | DataIndication | EstablishIndication => stray(holder),
-        BarAsked => match holder {
-            Nobody => Step::one(OpenBar, Rest),
-            Barred | Call(_) => Step::one(Count, Rest),
-        },
-        Expired(Timer::Bar) => match holder {
-            Barred => Step::one(EndBar, Rest),
-            Nobody | Call(_) => Step::one(Count, Rest),
-        },
-        UnbarAsked => unbar(Rest, holder),
-        LinkLost | LinkUp => Step::none(Rest),
-        ActivationNack | ReleaseAck | ReleaseIndication => Step::one(Count, Rest),
-        Expired(Timer::Activation | Timer::T3109 | Timer::T3111 | Timer::Release) => Step::one(
-            Count, Rest,
+    match lchan {
+        Activating => Step::two(Stop(Timer::Activation), Give, On),
+        Rest => stray(holder),
+        // The activation that it answers was given up, and its release is awaited, or was.
+        On | Mobile | Guard | Releasing | Closing | Reopening | Lost => Step::one(Count, lchan),
+    }
+}
+
+fn activation_nack(lchan: Lchan, holder: Holder) -> Step
+    ensures table { result ≡ heard_step lchan message.ActivationNack holder }
+{
+    match lchan {
+        Activating => Step::three(Stop(Timer::Activation), Give, Bar, Rest),
+        Rest | On | Mobile | Guard | Releasing | Closing | Reopening | Lost => Step::one(
+            Count, lchan,
         ),
     }
 }
 
-/// Releases a channel at rest on which a station speaks, where no call has it. It is released once: the answer is awaited.
+fn release_ack(lchan: Lchan, holder: Holder) -> Step
+    ensures table { result ≡ heard_step lchan message.ReleaseAck holder }
+{
+    match lchan {
+        Mobile => Step::two(Stop(Timer::T3109), Give, Rest),
+        Guard => Step::two(Stop(Timer::T3111), Give, Rest),
+        Releasing => Step::two(Stop(Timer::Release), Give, Rest),
+        Closing => closed(holder),
+        Reopening => Step::two(SendActivation, Start(Timer::Activation), Activating),
+        Rest | Activating | On | Lost => Step::one(Count, lchan),
+    }
+}
+
+/// The station that a channel awaited has released it, or is gone: that ends its bar.
+fn closed(holder: Holder) -> Step
+    ensures step { result ≡ record {
+      acts = (if barred holder then two (act.Stop timer.Bar) act.EndBar else nothing);
+      next = state.Rest;
+    } }
+{
+    match holder {
+        Barred => Step::two(Stop(Timer::Bar), EndBar, Rest),
+        Nobody | Call(_) => Step::none(Rest),
+    }
+}
+
+/// A station that speaks on a channel at rest has it active, by an activation that was given up, or by itself. Where no call has
+/// it, it is released: once, since the answer is awaited then.
 fn stray(holder: Holder) -> Step
     ensures step { result ≡ (if nobody holder then record { acts = two act.SendRelease act.Count; next = state.Closing }
         else record { acts = one act.Count; next = state.Rest }) }
@@ -72,225 +128,166 @@ fn stray(holder: Holder) -> Step
     }
 }
 
-/// Ends the bar of a channel, where it has one.
-fn unbar(lchan: Lchan, holder: Holder) -> Step
-    ensures step { result ≡ record {
-      acts = (if barred holder then two (act.Stop timer.Bar) act.EndBar else one act.Count);
-      next = lchan;
-    } }
+fn connection_failure(lchan: Lchan, holder: Holder) -> Step
+    ensures table { result ≡ heard_step lchan message.ConnectionFailure holder }
 {
-    match holder {
-        Barred => Step::two(Stop(Timer::Bar), EndBar, lchan),
-        Nobody | Call(_) => Step::one(Count, lchan),
-    }
-}
-
-/// The station's answer to CHANNEL ACTIVATION is awaited.
-fn activating(heard: Heard, holder: Holder) -> Step
-    ensures table { result ≡ heard_step state.Activating heard holder }
-{
-    match heard {
-        ActivationAck => Step::two(Stop(Timer::Activation), Give, On),
-        ActivationNack => Step::three(Stop(Timer::Activation), Give, Bar, Rest),
-        Expired(Timer::Activation) => Step::three(SendRelease, RefuseInPlace, Bar, Closing),
-        LinkLost => Step::two(Stop(Timer::Activation), RefuseInPlace, Rest),
-        LinkUp => Step::none(Activating),
-        ReleaseAck
-        | ConnectionFailure
-        | HandoverDetection
-        | HandoverComplete
-        | MeasurementResult
-        | DataIndication
-        | EstablishIndication
-        | ReleaseIndication
-        | BarAsked
-        | UnbarAsked => Step::one(Count, Activating),
-        Expired(Timer::T3109 | Timer::T3111 | Timer::Release | Timer::Bar) => Step::one(
-            Count, Activating,
+    match lchan {
+        On if holder.leaves() => Step::two(Give, KeepFailure, On),
+        On => Step::one(Give, On),
+        Rest => stray(holder),
+        Activating | Mobile | Guard | Releasing | Closing | Reopening | Lost => Step::one(
+            Count, lchan,
         ),
     }
 }
 
-/// A call has the channel, and it is active.
-fn on(heard: Heard, holder: Holder) -> Step
-    ensures table { result ≡ heard_step state.On heard holder }
+fn handover_detection(lchan: Lchan, holder: Holder) -> Step
+    ensures table { result ≡ heard_step lchan message.HandoverDetection holder }
 {
-    match heard {
-        ConnectionFailure => match holder {
-            Call(call) if call.leaves => Step::two(Give, KeepFailure, On),
-            Nobody | Barred | Call(_) => Step::one(Give, On),
-        },
-        LinkLost => match holder {
-            Call(call) if call.leaves => Step::two(FailInPlace, KeepFailure, Lost),
-            Nobody | Barred | Call(_) => Step::one(FailInPlace, Lost),
-        },
-        HandoverDetection | HandoverComplete => arrival(On, holder),
-        MeasurementResult => match holder {
-            Call(call) if call.reports => Step::one(Give, On),
-            Nobody | Barred | Call(_) => Step::one(Count, On),
-        },
-        DataIndication | EstablishIndication | ReleaseIndication => Step::one(Pass, On),
-        LinkUp => Step::none(On),
-        ActivationAck | ActivationNack | ReleaseAck | BarAsked | UnbarAsked => Step::one(Count, On),
-        Expired(Timer::Activation | Timer::T3109 | Timer::T3111 | Timer::Release | Timer::Bar) =>
-            Step::one(Count, On),
+    match lchan {
+        On | Lost => arrival(lchan, holder),
+        Rest => stray(holder),
+        Activating | Mobile | Guard | Releasing | Closing | Reopening => Step::one(Count, lchan),
     }
 }
 
-/// A mobile arrives: it is a stranger where the channel's call wasn't told to leave for it. On a channel whose link was lost it
-/// says that the station went on.
+fn handover_complete(lchan: Lchan, holder: Holder) -> Step
+    ensures table { result ≡ heard_step lchan message.HandoverComplete holder }
+{
+    match lchan {
+        On | Lost => arrival(lchan, holder),
+        Rest => stray(holder),
+        Activating | Mobile | Guard | Releasing | Closing | Reopening => Step::one(Count, lchan),
+    }
+}
+
+/// A mobile arrives. It is a stranger where none was told to leave for this channel. Where the link was lost, it shows that the
+/// station went on.
 fn arrival(lchan: Lchan, holder: Holder) -> Step
     ensures step { result ≡ (if arrives holder then record { acts = one act.Give; next = state.On }
         else record { acts = one act.Count; next = lchan }) }
 {
+    if holder.arrives() {
+        return Step::one(Give, On);
+    }
+    Step::one(Count, lchan)
+}
+
+fn measurement_result(lchan: Lchan, holder: Holder) -> Step
+    ensures table { result ≡ heard_step lchan message.MeasurementResult holder }
+{
+    match lchan {
+        On if holder.reports() => Step::one(Give, On),
+        Rest => stray(holder),
+        On | Activating | Mobile | Guard | Releasing | Closing | Reopening | Lost => Step::one(
+            Count, lchan,
+        ),
+    }
+}
+
+fn data_indication(lchan: Lchan, holder: Holder) -> Step
+    ensures table { result ≡ heard_step lchan message.DataIndication holder }
+{
+    match lchan {
+        On | Lost => Step::one(Pass, lchan),
+        Rest => stray(holder),
+        Activating | Mobile | Guard | Releasing | Closing | Reopening => Step::one(Count, lchan),
+    }
+}
+
+fn establish_indication(lchan: Lchan, holder: Holder) -> Step
+    ensures table { result ≡ heard_step lchan message.EstablishIndication holder }
+{
+    match lchan {
+        On | Lost => Step::one(Pass, lchan),
+        Rest => stray(holder),
+        Activating | Mobile | Guard | Releasing | Closing | Reopening => Step::one(Count, lchan),
+    }
+}
+
+fn release_indication(lchan: Lchan, holder: Holder) -> Step
+    ensures table { result ≡ heard_step lchan message.ReleaseIndication holder }
+{
+    match lchan {
+        Mobile => Step::two(Stop(Timer::T3109), Start(Timer::T3111), Guard),
+        On | Lost => Step::one(Pass, lchan),
+        Rest | Activating | Guard | Releasing | Closing | Reopening => Step::one(Count, lchan),
+    }
+}
+
+/// A timer that doesn't run in this state is counted. No timer ends `Closing`: its station alone does.
+fn expired(lchan: Lchan, timer: Timer, holder: Holder) -> Step
+    ensures table { result ≡ heard_step lchan (message.Expired timer) holder }
+{
+    match (timer, lchan) {
+        (Timer::Activation, Activating) => Step::three(SendRelease, RefuseInPlace, Bar, Closing),
+        (Timer::Activation, Reopening) => Step::two(RefuseInPlace, Bar, Closing),
+        (Timer::T3109, Mobile) => Step::two(SendRelease, Start(Timer::Release), Releasing),
+        (Timer::T3111, Guard) => Step::two(SendRelease, Start(Timer::Release), Releasing),
+        (Timer::Release, Releasing) => Step::two(ReleaseInPlace, Bar, Closing),
+        (Timer::Bar, Rest) => bar_expired(holder),
+
+        (Timer::Activation, Rest | On | Mobile | Guard | Releasing | Closing | Lost) => Step::one(
+            Count, lchan,
+        ),
+        (Timer::T3109, Rest | Activating | On | Guard | Releasing | Closing | Reopening | Lost) =>
+            Step::one(Count, lchan),
+        (Timer::T3111, Rest | Activating | On | Mobile | Releasing | Closing | Reopening | Lost) =>
+            Step::one(Count, lchan),
+        (Timer::Release, Rest | Activating | On | Mobile | Guard | Closing | Reopening | Lost) =>
+            Step::one(Count, lchan),
+        (Timer::Bar, Activating | On | Mobile | Guard | Releasing | Closing | Reopening | Lost) =>
+            Step::one(Count, lchan),
+    }
+}
+
+fn bar_expired(holder: Holder) -> Step
+    ensures table { result ≡ heard_step state.Rest (message.Expired timer.Bar) holder }
+{
     match holder {
-        Call(call) if call.arrives => Step::one(Give, On),
-        Nobody | Barred | Call(_) => Step::one(Count, lchan),
+        Barred => Step::one(EndBar, Rest),
+        Nobody | Call(_) => Step::one(Count, Rest),
     }
 }
 
-/// The mobile was told to leave the link, as its call has ended.
-fn mobile(heard: Heard, holder: Holder) -> Step
-    ensures table { result ≡ heard_step state.Mobile heard holder }
+/// With its link a channel is at rest; whoever waits for its station is given an answer in the station's place.
+fn link_lost(lchan: Lchan, holder: Holder) -> Step
+    ensures table { result ≡ heard_step lchan message.LinkLost holder }
 {
-    match heard {
-        ReleaseIndication => Step::two(Stop(Timer::T3109), Start(Timer::T3111), Guard),
-        Expired(Timer::T3109) => Step::two(SendRelease, Start(Timer::Release), Releasing),
-        ReleaseAck => Step::two(Stop(Timer::T3109), Give, Rest),
-        LinkLost => Step::two(Stop(Timer::T3109), ReleaseInPlace, Rest),
-        LinkUp => Step::none(Mobile),
-        ActivationAck
-        | ActivationNack
-        | ConnectionFailure
-        | HandoverDetection
-        | HandoverComplete
-        | MeasurementResult
-        | DataIndication
-        | EstablishIndication
-        | BarAsked
-        | UnbarAsked => Step::one(Count, Mobile),
-        Expired(Timer::Activation | Timer::T3111 | Timer::Release | Timer::Bar) => Step::one(
-            Count, Mobile,
-        ),
+    match lchan {
+        Activating | Reopening => Step::two(Stop(Timer::Activation), RefuseInPlace, Rest),
+        On if holder.leaves() => Step::two(FailInPlace, KeepFailure, Lost),
+        On => Step::one(FailInPlace, Lost),
+        Mobile => Step::two(Stop(Timer::T3109), ReleaseInPlace, Rest),
+        Guard => Step::two(Stop(Timer::T3111), ReleaseInPlace, Rest),
+        Releasing => Step::two(Stop(Timer::Release), ReleaseInPlace, Rest),
+        Closing => closed(holder),
+        Rest | Lost => Step::none(lchan),
     }
 }
 
-/// The mobile has left the link.
-fn guard(heard: Heard, holder: Holder) -> Step
-    ensures table { result ≡ heard_step state.Guard heard holder }
+fn bar_asked(lchan: Lchan, holder: Holder) -> Step
+    ensures table { result ≡ heard_step lchan message.BarAsked holder }
 {
-    match heard {
-        Expired(Timer::T3111) => Step::two(SendRelease, Start(Timer::Release), Releasing),
-        ReleaseAck => Step::two(Stop(Timer::T3111), Give, Rest),
-        LinkLost => Step::two(Stop(Timer::T3111), ReleaseInPlace, Rest),
-        LinkUp => Step::none(Guard),
-        ActivationAck
-        | ActivationNack
-        | ConnectionFailure
-        | HandoverDetection
-        | HandoverComplete
-        | MeasurementResult
-        | DataIndication
-        | EstablishIndication
-        | ReleaseIndication
-        | BarAsked
-        | UnbarAsked => Step::one(Count, Guard),
-        Expired(Timer::Activation | Timer::T3109 | Timer::Release | Timer::Bar) => Step::one(
-            Count, Guard,
-        ),
+    match (lchan, holder) {
+        (Rest, Nobody) => Step::one(OpenBar, Rest),
+        (Rest, Barred | Call(_)) => Step::one(Count, Rest),
+        (
+            Activating | On | Mobile | Guard | Releasing | Closing | Reopening | Lost,
+            Nobody | Barred | Call(_),
+        ) => { Step::one(Count, lchan) }
     }
 }
 
-/// The station's answer to RF CHANNEL RELEASE is awaited.
-fn releasing(heard: Heard, holder: Holder) -> Step
-    ensures table { result ≡ heard_step state.Releasing heard holder }
+fn unbar_asked(lchan: Lchan, holder: Holder) -> Step
+    ensures table { result ≡ heard_step lchan message.UnbarAsked holder }
 {
-    match heard {
-        ReleaseAck => Step::two(Stop(Timer::Release), Give, Rest),
-        Expired(Timer::Release) => Step::two(ReleaseInPlace, Bar, Closing),
-        LinkLost => Step::two(Stop(Timer::Release), ReleaseInPlace, Rest),
-        LinkUp => Step::none(Releasing),
-        ActivationAck
-        | ActivationNack
-        | ConnectionFailure
-        | HandoverDetection
-        | HandoverComplete
-        | MeasurementResult
-        | DataIndication
-        | EstablishIndication
-        | ReleaseIndication
-        | BarAsked
-        | UnbarAsked => Step::one(Count, Releasing),
-        Expired(Timer::Activation | Timer::T3109 | Timer::T3111 | Timer::Bar) => Step::one(
-            Count, Releasing,
-        ),
-    }
-}
-
-/// As in `releasing`, but the book doesn't wait for the answer. Neither a timer nor the late answer to an activation ends that.
-fn closing(heard: Heard, holder: Holder) -> Step
-    ensures table { result ≡ heard_step state.Closing heard holder }
-{
-    match heard {
-        ReleaseAck | LinkLost => match holder {
-            Barred => Step::two(Stop(Timer::Bar), EndBar, Rest),
-            Nobody | Call(_) => Step::none(Rest),
-        },
-        UnbarAsked => unbar(Closing, holder),
-        LinkUp => Step::none(Closing),
-        ActivationAck
-        | ActivationNack
-        | ConnectionFailure
-        | HandoverDetection
-        | HandoverComplete
-        | MeasurementResult
-        | DataIndication
-        | EstablishIndication
-        | ReleaseIndication
-        | BarAsked => Step::one(Count, Closing),
-        Expired(Timer::Activation | Timer::T3109 | Timer::T3111 | Timer::Release | Timer::Bar) =>
-            Step::one(Count, Closing),
-    }
-}
-
-/// As in `closing`, and a call waits for the channel.
-fn reopening(heard: Heard, holder: Holder) -> Step
-    ensures table { result ≡ heard_step state.Reopening heard holder }
-{
-    match heard {
-        ReleaseAck => Step::two(SendActivation, Start(Timer::Activation), Activating),
-        Expired(Timer::Activation) => Step::two(RefuseInPlace, Bar, Closing),
-        LinkLost => Step::two(Stop(Timer::Activation), RefuseInPlace, Rest),
-        LinkUp => Step::none(Reopening),
-        ActivationAck
-        | ActivationNack
-        | ConnectionFailure
-        | HandoverDetection
-        | HandoverComplete
-        | MeasurementResult
-        | DataIndication
-        | EstablishIndication
-        | ReleaseIndication
-        | BarAsked
-        | UnbarAsked => Step::one(Count, Reopening),
-        Expired(Timer::T3109 | Timer::T3111 | Timer::Release | Timer::Bar) => Step::one(
-            Count, Reopening,
-        ),
-    }
-}
-
-/// The link was lost while the channel was on.
-fn lost(heard: Heard, holder: Holder) -> Step
-    ensures table { result ≡ heard_step state.Lost heard holder }
-{
-    match heard {
-        HandoverDetection | HandoverComplete => arrival(Lost, holder),
-        DataIndication | EstablishIndication | ReleaseIndication => Step::one(Pass, Lost),
-        LinkLost | LinkUp => Step::none(Lost),
-        ActivationAck | ActivationNack | ReleaseAck | ConnectionFailure | MeasurementResult =>
-            Step::one(Count, Lost),
-        BarAsked | UnbarAsked => Step::one(Count, Lost),
-        Expired(Timer::Activation | Timer::T3109 | Timer::T3111 | Timer::Release | Timer::Bar) =>
-            Step::one(Count, Lost),
+    match (lchan, holder) {
+        (Rest | Closing, Barred) => Step::two(Stop(Timer::Bar), EndBar, lchan),
+        (Rest | Closing, Nobody | Call(_)) => Step::one(Count, lchan),
+        (
+            Activating | On | Mobile | Guard | Releasing | Reopening | Lost,
+            Nobody | Barred | Call(_),
+        ) => { Step::one(Count, lchan) }
     }
 }

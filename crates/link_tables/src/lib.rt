@@ -6,12 +6,14 @@ ghost use Rattle.std.specs.Prelude.{◌≡◌};
 ghost use Rattle.link_tables.specs.Acts.{timer_of, nothing, one, two, three};
 
 mod bars;
+mod failures;
 mod hearing;
 pub mod laws;
 mod settling;
 
 pub use bars::bar;
 pub use channel_fsm::ChanState;
+pub use failures::end_attempt;
 pub use hearing::hear;
 pub use settling::settle;
 
@@ -129,6 +131,17 @@ pub struct Circumstances {
     pub is_bar: bool,
 }
 
+/// How an attempt at handover ended, for the channel on which its call was served when it began.
+#[derive(Clone, Copy, Debug, PartialEq, Eq)]
+pub enum AttemptEnd {
+    /// The mobile is on another channel.
+    Arrived,
+    /// The mobile came back: HANDOVER FAILURE (TS 44.018 clause 3.4.4.4).
+    CameBack,
+    /// It was undone, and nobody heard the mobile.
+    TakenBack,
+}
+
 /// What is done, one thing at a time.
 #[derive(Clone, Copy, Debug, PartialEq, Eq)]
 pub enum Act {
@@ -144,7 +157,7 @@ pub enum Act {
     ReleaseInPlace,
     /// In the station's place the controller is given CONNECTION FAILURE INDICATION, cause 20.
     FailInPlace,
-    /// The failure is kept until the call's attempt has ended.
+    /// The failure is kept until the call's attempt has ended: see [`end_attempt`].
     KeepFailure,
     /// CHANNEL ACTIVATION is sent, as the controller said it.
     SendActivation,
