@@ -108,7 +108,8 @@ ended = map (λ h. row Closing h barred (two (Stop Bar) EndBar) Rest) (ReleaseAc
 -- L18: a station that speaks on a channel of no call has it active: it is released
 abbrev strays : List Row
 strays = map (λ h. row Rest h nobody (two SendRelease Count) Closing)
-    (ActivationAck ∷ ConnectionFailure ∷ HandoverDetection ∷ HandoverComplete ∷ MeasurementResult ∷ DataIndication ∷ EstablishIndication ∷ [])
+    (ActivationAck ∷ ConnectionFailure ∷ HandoverDetection ∷ HandoverComplete ∷
+    MeasurementResult ∷ DataIndication ∷ EstablishIndication ∷ [])
 
 -- L20, L27: a mobile arrives, and not a stranger (48.058 clauses 4.3 and 8.4.7, 44.018 clause 9.1.16). Where the link was lost
 -- the station went on.
@@ -116,7 +117,7 @@ abbrev arrivals : List Row
 arrivals = map (λ h. row On h arrives (one Give) On) (HandoverDetection ∷ HandoverComplete ∷ []) ++
     map (λ h. row Lost h arrives (one Give) On) (HandoverDetection ∷ HandoverComplete ∷ [])
 
--- what the rows of calls are for
+-- L33: what the rows of calls are for (48.058 clause 8.3)
 abbrev passed : List Row
 passed = map (λ h. row On h anyone (one Pass) On) (DataIndication ∷ EstablishIndication ∷ ReleaseIndication ∷ []) ++
     map (λ h. row Lost h anyone (one Pass) Lost) (DataIndication ∷ EstablishIndication ∷ ReleaseIndication ∷ [])

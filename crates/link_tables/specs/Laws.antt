@@ -83,7 +83,8 @@ agrees_behind book step = agrees (answered step.acts book) step.next
 
 -- Whatever the book and the channel were before a turn, they agree behind it.
 abbrev pub SettledAgrees : Type 0
-SettledAgrees = (lchan : Lchan) (before now : ChanState) (c : Circumstances) → agrees_behind now (settled_step lchan before now c) ≡ true
+SettledAgrees =
+    (lchan : Lchan) (before now : ChanState) (c : Circumstances) → agrees_behind now (settled_step lchan before now c) ≡ true
 
 -- RELEASES
 
@@ -113,24 +114,32 @@ asks step = does step.acts act.SendRelease || does step.acts act.SendActivation
 
 -- A release or an activation leaves only where no release is awaited.
 abbrev pub HeardAsksOnce : Type 0
-HeardAsksOnce = (lchan : Lchan) (heard : Heard) (holder : Holder) → asks (heard_step lchan heard holder) ≡ true → awaited lchan heard ≡ false
+HeardAsksOnce =
+    (lchan : Lchan) (heard : Heard) (holder : Holder) → asks (heard_step lchan heard holder) ≡ true → awaited lchan heard ≡ false
 
 abbrev pub SettledAsksOnce : Type 0
-SettledAsksOnce = (lchan : Lchan) (before now : ChanState) (c : Circumstances) → asks (settled_step lchan before now c) ≡ true → awaits lchan ≡ false
+SettledAsksOnce =
+    (lchan : Lchan) (before now : ChanState) (c : Circumstances) → asks (settled_step lchan before now c) ≡ true → awaits lchan ≡ false
 
--- A release is awaited just where one leaves, or is awaited still: none is kept, and none is forgotten.
+-- behind the step a release is awaited just where one leaves in it, or is awaited still
+abbrev pub IsAwaited : Step → Bool → Type 0
+IsAwaited step still = awaits step.next ≡ (does step.acts act.SendRelease || still)
+
+-- No release is kept, and none is forgotten.
 abbrev pub HeardAwaits : Type 0
 HeardAwaits = (lchan : Lchan) (heard : Heard) (holder : Holder) →
-    awaits (heard_step lchan heard holder).next ≡ (does (heard_step lchan heard holder).acts act.SendRelease || awaited lchan heard)
+    IsAwaited (heard_step lchan heard holder) (awaited lchan heard)
 
--- The same behind a turn, where there is a link; but where the book has the channel on, as no turn has it while a release is awaited.
+-- The same behind a turn, where there is a link; but where the book has the channel on, as no turn has it while a release is
+-- awaited.
 abbrev pub SettledAwaits : Type 0
 SettledAwaits = (lchan : Lchan) (before now : ChanState) (c : Circumstances) → c.has_link ≡ true → is_on now ≡ false →
-    awaits (settled_step lchan before now c).next ≡ (does (settled_step lchan before now c).acts act.SendRelease || awaits lchan)
+    IsAwaited (settled_step lchan before now c) (awaits lchan)
 
 -- Closing ends by the station's answer or its link's end: no clock ends it.
 abbrev pub ClosingEnds : Type 0
-ClosingEnds = (heard : Heard) (holder : Holder) → ((heard_step Closing heard holder).next ≡ Closing) ⊎ ((heard ≡ ReleaseAck) ⊎ (heard ≡ LinkLost))
+ClosingEnds =
+    (heard : Heard) (holder : Holder) → ((heard_step Closing heard holder).next ≡ Closing) ⊎ ((heard ≡ ReleaseAck) ⊎ (heard ≡ LinkLost))
 
 -- TIMERS
 
@@ -153,11 +162,15 @@ runs lchan timer = is_timer timer (timer_of lchan)
 abbrev pub runs_behind : Acts → Timer → Bool → Bool
 runs_behind acts timer before = does acts (act.Start timer) || (before && not (does acts (act.Stop timer)))
 
+-- behind the step the timer runs just where its state has it, if it ran before or not
+abbrev pub RunsInState : Step → Timer → Bool → Type 0
+RunsInState step timer before = runs_behind step.acts timer before ≡ runs step.next timer
+
 -- The timers of a channel start and stop with its states. (That of its bar is none of these.)
 abbrev pub HeardRuns : Type 0
 HeardRuns = (lchan : Lchan) (heard : Heard) (holder : Holder) (timer : Timer) → timer ≢ Bar →
-    runs_behind (heard_step lchan heard holder).acts timer (runs lchan timer && not (same_heard heard (Expired timer))) ≡ runs (heard_step lchan heard holder).next timer
+    RunsInState (heard_step lchan heard holder) timer (runs lchan timer && not (same_heard heard (Expired timer)))
 
 abbrev pub SettledRuns : Type 0
 SettledRuns = (lchan : Lchan) (before now : ChanState) (c : Circumstances) (timer : Timer) → timer ≢ Bar →
-    runs_behind (settled_step lchan before now c).acts timer (runs lchan timer) ≡ runs (settled_step lchan before now c).next timer
+    RunsInState (settled_step lchan before now c) timer (runs lchan timer)

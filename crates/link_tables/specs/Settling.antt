@@ -1,5 +1,5 @@
--- What a channel does behind a turn of the controller in which the book has moved: the difference between what the book says of it
--- and what its station was told is what is sent. The numbers are those of docs/LINKS.md.
+-- What a channel does behind a turn of the controller in which the book has moved: the difference between what the book says of
+-- it and what its station was told is what is sent. The numbers are those of docs/LINKS.md.
 use Rattle.std.specs.Prelude.{ℕ, ◌==◌, ◌&&◌, ◌||◌, Bool, true, false, List, [], ◌∷◌, ◌++◌, map, find, Option, Some, None}
 use Rattle.std.proofs.Math.Bool.{not}
 use Rattle.channel_fsm.specs.declared.ChanState.{ChanState}
@@ -113,13 +113,17 @@ ended =
     row Rest is_off always (one ReleaseInPlace) Rest ∷
     row Closing is_off always (one ReleaseInPlace) Closing ∷ []
 
--- L28 to L30: moves that no turn makes where channel and book agreed before. They agree again, and what may be active is released.
+-- L28 to L30: moves that no turn makes where channel and book agreed before. They agree again, and what may be active is
+-- released.
 abbrev others : List Row
 others =
-    map (λ s. row s is_idle always (stopped s ∷ Some SendRelease ∷ None ∷ []) Closing) (Activating ∷ On ∷ Mobile ∷ Guard ∷ Lost ∷ []) ++
+    map (λ s. row s is_idle always (stopped s ∷ Some SendRelease ∷ None ∷ []) Closing)
+    (Activating ∷ On ∷ Mobile ∷ Guard ∷ Lost ∷ []) ++
     map (λ s. row s is_idle always (stopped s ∷ None ∷ None ∷ []) Closing) (Releasing ∷ Reopening ∷ []) ++
-    map (λ s. row s is_on always (stopped s ∷ None ∷ None ∷ []) Lost) (Rest ∷ Activating ∷ Mobile ∷ Guard ∷ Releasing ∷ Closing ∷ Reopening ∷ []) ++
-    map (λ s. row s is_pending always (stopped s ∷ Some SendRelease ∷ Some RefuseInPlace ∷ []) Closing) (Mobile ∷ Guard ∷ Lost ∷ []) ++
+    map (λ s. row s is_on always (stopped s ∷ None ∷ None ∷ []) Lost)
+    (Rest ∷ Activating ∷ Mobile ∷ Guard ∷ Releasing ∷ Closing ∷ Reopening ∷ []) ++
+    map (λ s. row s is_pending always (stopped s ∷ Some SendRelease ∷ Some RefuseInPlace ∷ []) Closing)
+    (Mobile ∷ Guard ∷ Lost ∷ []) ++
     row Releasing is_pending always (three (Stop Release) KeepActivation (Start Activation)) Reopening ∷ []
 
 -- The rows: the first that fits counts.

@@ -12,13 +12,8 @@ pub fn bar(lchan: Lchan, book: ChanState, is_from_air: bool) -> Step
 {
     let start = match lchan {
         Lchan::Rest => Some(Act::Start(Timer::Bar)),
-        Lchan::Activating
-        | Lchan::On
-        | Lchan::Mobile
-        | Lchan::Guard
-        | Lchan::Releasing
-        | Lchan::Closing => None,
-        Lchan::Reopening | Lchan::Lost => None,
+        Lchan::Activating | Lchan::On | Lchan::Mobile | Lchan::Guard => None,
+        Lchan::Releasing | Lchan::Closing | Lchan::Reopening | Lchan::Lost => None,
     };
     match book {
         ChanState::Free => Step {

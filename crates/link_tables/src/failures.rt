@@ -9,18 +9,14 @@ use crate::{Act, AttemptEnd, Lchan, Step};
 pub fn end_attempt(lchan: Lchan, end: AttemptEnd) -> Step
     ensures table { result ≡ ended_step lchan end }
 {
-    match (lchan, end) {
-        (Lchan::On | Lchan::Lost, AttemptEnd::TakenBack) | (Lchan::Lost, AttemptEnd::CameBack) =>
-            Step::one(Act::FailInPlace, lchan),
-        (Lchan::On, AttemptEnd::CameBack) => Step::none(lchan),
-        (Lchan::On | Lchan::Lost, AttemptEnd::Arrived) => Step::none(lchan),
-        (
-            Lchan::Rest | Lchan::Activating | Lchan::Mobile | Lchan::Guard,
-            AttemptEnd::Arrived | AttemptEnd::CameBack | AttemptEnd::TakenBack,
-        ) => Step::none(lchan),
-        (
-            Lchan::Releasing | Lchan::Closing | Lchan::Reopening,
-            AttemptEnd::Arrived | AttemptEnd::CameBack | AttemptEnd::TakenBack,
-        ) => Step::none(lchan),
+    let is_told = match lchan {
+        Lchan::On => end == AttemptEnd::TakenBack,
+        Lchan::Lost => end != AttemptEnd::Arrived,
+        Lchan::Rest | Lchan::Activating | Lchan::Mobile | Lchan::Guard => false,
+        Lchan::Releasing | Lchan::Closing | Lchan::Reopening => false,
+    };
+    if is_told {
+        return Step::one(Act::FailInPlace, lchan);
     }
+    Step::none(lchan)
 }

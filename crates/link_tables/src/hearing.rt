@@ -40,6 +40,24 @@ pub fn hear(lchan: Lchan, heard: Heard, holder: Holder) -> Step
 }
 
 impl Holder {
+    fn is_nobody(self) -> bool
+        ensures value { result ≡ nobody self }
+    {
+        match self {
+            Nobody => true,
+            Barred | Call(_) => false,
+        }
+    }
+
+    fn is_barred(self) -> bool
+        ensures value { result ≡ barred self }
+    {
+        match self {
+            Barred => true,
+            Nobody | Call(_) => false,
+        }
+    }
+
     fn leaves(self) -> bool
         ensures value { result ≡ leaves self }
     {
@@ -105,27 +123,25 @@ fn release_ack(lchan: Lchan, holder: Holder) -> Step
 
 /// The station that a channel awaited has released it, or is gone: that ends its bar.
 fn closed(holder: Holder) -> Step
-    ensures step { result ≡ record {
-      acts = (if barred holder then two (act.Stop timer.Bar) act.EndBar else nothing);
-      next = state.Rest;
-    } }
+    ensures barred { result.acts ≡ (if barred holder then two (act.Stop timer.Bar) act.EndBar else nothing) }
+    ensures rest { result.next ≡ state.Rest }
 {
-    match holder {
-        Barred => Step::two(Stop(Timer::Bar), EndBar, Rest),
-        Nobody | Call(_) => Step::none(Rest),
+    if holder.is_barred() {
+        return Step::two(Stop(Timer::Bar), EndBar, Rest);
     }
+    Step::none(Rest)
 }
 
 /// A station that speaks on a channel at rest has it active, by an activation that was given up, or by itself. Where no call has
 /// it, it is released: once, since the answer is awaited then.
 fn stray(holder: Holder) -> Step
-    ensures step { result ≡ (if nobody holder then record { acts = two act.SendRelease act.Count; next = state.Closing }
-        else record { acts = one act.Count; next = state.Rest }) }
+    ensures acts { result.acts ≡ (if nobody holder then two act.SendRelease act.Count else one act.Count) }
+    ensures state { result.next ≡ (if nobody holder then state.Closing else state.Rest) }
 {
-    match holder {
-        Nobody => Step::two(SendRelease, Count, Closing),
-        Barred | Call(_) => Step::one(Count, Rest),
+    if holder.is_nobody() {
+        return Step::two(SendRelease, Count, Closing);
     }
+    Step::one(Count, Rest)
 }
 
 fn connection_failure(lchan: Lchan, holder: Holder) -> Step
@@ -164,8 +180,8 @@ fn handover_complete(lchan: Lchan, holder: Holder) -> Step
 /// A mobile arrives. It is a stranger where none was told to leave for this channel. Where the link was lost, it shows that the
 /// station went on.
 fn arrival(lchan: Lchan, holder: Holder) -> Step
-    ensures step { result ≡ (if arrives holder then record { acts = one act.Give; next = state.On }
-        else record { acts = one act.Count; next = lchan }) }
+    ensures acts { result.acts ≡ one (if arrives holder then act.Give else act.Count) }
+    ensures state { result.next ≡ (if arrives holder then state.On else lchan) }
 {
     if holder.arrives() {
         return Step::one(Give, On);
@@ -225,28 +241,18 @@ fn expired(lchan: Lchan, timer: Timer, holder: Holder) -> Step
         (Timer::T3109, Mobile) => Step::two(SendRelease, Start(Timer::Release), Releasing),
         (Timer::T3111, Guard) => Step::two(SendRelease, Start(Timer::Release), Releasing),
         (Timer::Release, Releasing) => Step::two(ReleaseInPlace, Bar, Closing),
-        (Timer::Bar, Rest) => bar_expired(holder),
+        (Timer::Bar, Rest) if holder.is_barred() => Step::one(EndBar, Rest),
 
-        (Timer::Activation, Rest | On | Mobile | Guard | Releasing | Closing | Lost) => Step::one(
-            Count, lchan,
-        ),
-        (Timer::T3109, Rest | Activating | On | Guard | Releasing | Closing | Reopening | Lost) =>
-            Step::one(Count, lchan),
-        (Timer::T3111, Rest | Activating | On | Mobile | Releasing | Closing | Reopening | Lost) =>
-            Step::one(Count, lchan),
-        (Timer::Release, Rest | Activating | On | Mobile | Guard | Closing | Reopening | Lost) =>
-            Step::one(Count, lchan),
-        (Timer::Bar, Activating | On | Mobile | Guard | Releasing | Closing | Reopening | Lost) =>
-            Step::one(Count, lchan),
-    }
-}
-
-fn bar_expired(holder: Holder) -> Step
-    ensures table { result ≡ heard_step state.Rest (message.Expired timer.Bar) holder }
-{
-    match holder {
-        Barred => Step::one(EndBar, Rest),
-        Nobody | Call(_) => Step::one(Count, Rest),
+        (Timer::Activation, Rest | On | Mobile | Guard) => Step::one(Count, lchan),
+        (Timer::Activation, Releasing | Closing | Lost) => Step::one(Count, lchan),
+        (Timer::T3109, Rest | Activating | On | Guard) => Step::one(Count, lchan),
+        (Timer::T3109, Releasing | Closing | Reopening | Lost) => Step::one(Count, lchan),
+        (Timer::T3111, Rest | Activating | On | Mobile) => Step::one(Count, lchan),
+        (Timer::T3111, Releasing | Closing | Reopening | Lost) => Step::one(Count, lchan),
+        (Timer::Release, Rest | Activating | On | Mobile | Guard) => Step::one(Count, lchan),
+        (Timer::Release, Closing | Reopening | Lost) => Step::one(Count, lchan),
+        (Timer::Bar, Rest | Activating | On | Mobile | Guard) => Step::one(Count, lchan),
+        (Timer::Bar, Releasing | Closing | Reopening | Lost) => Step::one(Count, lchan),
     }
 }
 
@@ -269,25 +275,19 @@ fn link_lost(lchan: Lchan, holder: Holder) -> Step
 fn bar_asked(lchan: Lchan, holder: Holder) -> Step
     ensures table { result ≡ heard_step lchan message.BarAsked holder }
 {
-    match (lchan, holder) {
-        (Rest, Nobody) => Step::one(OpenBar, Rest),
-        (Rest, Barred | Call(_)) => Step::one(Count, Rest),
-        (
-            Activating | On | Mobile | Guard | Releasing | Closing | Reopening | Lost,
-            Nobody | Barred | Call(_),
-        ) => { Step::one(Count, lchan) }
+    match lchan {
+        Rest if holder.is_nobody() => Step::one(OpenBar, Rest),
+        Rest | Activating | On | Mobile | Guard => Step::one(Count, lchan),
+        Releasing | Closing | Reopening | Lost => Step::one(Count, lchan),
     }
 }
 
 fn unbar_asked(lchan: Lchan, holder: Holder) -> Step
     ensures table { result ≡ heard_step lchan message.UnbarAsked holder }
 {
-    match (lchan, holder) {
-        (Rest | Closing, Barred) => Step::two(Stop(Timer::Bar), EndBar, lchan),
-        (Rest | Closing, Nobody | Call(_)) => Step::one(Count, lchan),
-        (
-            Activating | On | Mobile | Guard | Releasing | Reopening | Lost,
-            Nobody | Barred | Call(_),
-        ) => { Step::one(Count, lchan) }
+    match lchan {
+        Rest | Closing if holder.is_barred() => Step::two(Stop(Timer::Bar), EndBar, lchan),
+        Rest | Activating | On | Mobile | Guard => Step::one(Count, lchan),
+        Releasing | Closing | Reopening | Lost => Step::one(Count, lchan),
     }
 }

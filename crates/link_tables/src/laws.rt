@@ -2,9 +2,9 @@
 ghost use Rattle.link_tables.specs.Laws.{SettledAgrees, HeardAsksOnce, SettledAsksOnce, HeardAwaits, SettledAwaits};
 ghost use Rattle.link_tables.specs.Laws.{ClosingEnds, HeardRuns, SettledRuns};
 
-/// Behind a turn the channel agrees with the book, whatever both were before it: free or held with `Rest` and `Closing`, pending
-/// with `Activating` and `Reopening`, on with `On` and `Lost`, off with `Mobile`, `Guard` and `Releasing`. Where the controller is
-/// given an answer in the station's place, they agree once it has read that.
+/// Behind a turn the channel agrees with the book, whatever both were before it: free or held with `Rest` and `Closing`,
+/// pending with `Activating` and `Reopening`, on with `On` and `Lost`, off with `Mobile`, `Guard` and `Releasing`. Where the
+/// controller is given an answer in the station's place, they agree once it has read that.
 pub fn settled_agrees()
     ensures law { SettledAgrees }
 {}
