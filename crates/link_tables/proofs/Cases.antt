@@ -1,11 +1,10 @@
 -- The laws, by computing each of their cases.
-use Rattle.std.proofs.Common.{◌≡◌, ◌≢◌, ◌⊎◌, ◌&&◌, ◌||◌, ℕ, Bool, true, false, refl, sym, inl, inr}
+use Rattle.std.proofs.Common.{◌≡◌, ◌≢◌, ◌&&◌, ◌||◌, ℕ, Bool, true, false, refl, sym, inl, inr}
 use Rattle.std.proofs.Math.Bool.{not}
 use Rattle.std.specs.List.{list_all}
 use Rattle.std.proofs.lemmas.Bool.{false≢true, true≢false}
 use Rattle.channel_fsm.specs.declared.ChanState.{ChanState}
 use Rattle.link_tables.specs.declared.Lchan.{Lchan}
-use Rattle.link_tables.specs.declared.Lchan.TheVariants.{Closing}
 use Rattle.link_tables.specs.declared.Heard.{Heard}
 use Rattle.link_tables.specs.declared.Heard.TheVariants.{ActivationAck, ActivationNack, ReleaseAck, ConnectionFailure, HandoverDetection, HandoverComplete, MeasurementResult, DataIndication, EstablishIndication, ReleaseIndication, Expired, LinkLost, LinkUp, BarAsked, UnbarAsked}
 use Rattle.link_tables.specs.declared.Holder.{Holder}
@@ -18,7 +17,7 @@ use Rattle.link_tables.specs.Acts.{lchans}
 use Rattle.link_tables.specs.Hearing.{heard_step, same_heard}
 use Rattle.link_tables.specs.Settling.{settled_step, is_on}
 use Rattle.link_tables.specs.Laws.{SettledAgrees, HeardAsksOnce, SettledAsksOnce, HeardAwaits, SettledAwaits, ClosingEnds, HeardRuns, SettledRuns, agrees_behind, asks, awaits, awaited, does, runs, runs_behind}
-use Rattle.link_tables.proofs.Every.{every_lchan, every_heard, every_holder, every_standing, every_book, heards, holders, standings, books, timers}
+use Rattle.link_tables.proofs.Every.{every_lchan, every_heard, every_holder, every_standing, every_book, heards, holders, standings, books}
 
 -- TESTS
 

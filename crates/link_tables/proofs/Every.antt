@@ -1,5 +1,5 @@
 -- A test that all values of a type pass, by computing, is passed by each.
-use Rattle.std.proofs.Common.{◌≡◌, ◌&&◌, ℕ, zero, suc, Bool, true, false, List, [], ◌∷◌, Option, Some, None, refl, subst}
+use Rattle.std.proofs.Common.{◌≡◌, ℕ, zero, suc, Bool, true, false, List, [], ◌∷◌, Option, Some, None, refl, subst}
 use Rattle.std.specs.List.{list_all}
 use Rattle.std.proofs.lemmas.Bool.{and_parts}
 use Rattle.std.proofs.lemmas.Option.{same_Some, none-some}
@@ -9,7 +9,6 @@ use Rattle.link_tables.specs.declared.Lchan.{Lchan}
 use Rattle.link_tables.specs.declared.Lchan.TheVariants.{Rest, Activating, On, Mobile, Guard, Releasing, Closing, Reopening, Lost}
 use Rattle.link_tables.specs.declared.Heard.{Heard}
 use Rattle.link_tables.specs.declared.Heard.TheVariants.{ActivationAck, ActivationNack, ReleaseAck, ConnectionFailure, HandoverDetection, HandoverComplete, MeasurementResult, DataIndication, EstablishIndication, ReleaseIndication, Expired, LinkLost, LinkUp, BarAsked, UnbarAsked}
-use Rattle.link_tables.specs.declared.Timer.{Timer}
 use Rattle.link_tables.specs.declared.Timer.TheVariants.{Activation, T3109, T3111, Release, Bar}
 use Rattle.link_tables.specs.declared.Holder.{Holder}
 use Rattle.link_tables.specs.declared.Holder.TheVariants.{Nobody, Barred, Call}
@@ -112,7 +111,3 @@ every_book p all (book.Held c) = at p (books c) (all c) 1 (book.Held c) refl
 every_book p all (book.Pending c) = at p (books c) (all c) 2 (book.Pending c) refl
 every_book p all (book.On c) = at p (books c) (all c) 3 (book.On c) refl
 every_book p all book.Off = at p (books 0) (all 0) 4 book.Off refl
-
--- the timers of a channel, but that of its bar
-abbrev pub timers : List Timer
-timers = Activation ∷ T3109 ∷ T3111 ∷ Release ∷ []

@@ -1,5 +1,5 @@
 -- How a channel is barred. Ours, of no standard (osmo-bsc: BORKEN). The number is that of docs/LINKS.md.
-use Rattle.std.specs.Prelude.{Bool, true, false, List, [], ◌∷◌, Option, Some, None, if◌then◌else◌}
+use Rattle.std.specs.Prelude.{Bool, [], ◌∷◌, Option, Some, None, if◌then◌else◌}
 use Rattle.channel_fsm.specs.declared.ChanState.{ChanState}
 use Rattle.channel_fsm.specs.declared.ChanState.TheVariants as book
 use Rattle.link_tables.specs.declared.Lchan.{Lchan}

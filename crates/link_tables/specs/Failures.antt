@@ -1,6 +1,6 @@
 -- What becomes of a failure of the old channel that came while its call had an attempt at handover (48.058 clause 8.4.4). The
 -- number is that of docs/LINKS.md.
-use Rattle.std.specs.Prelude.{Bool, true, false, ◌||◌, if◌then◌else◌}
+use Rattle.std.specs.Prelude.{Bool, false, ◌||◌, if◌then◌else◌}
 use Rattle.link_tables.specs.declared.Lchan.{Lchan}
 use Rattle.link_tables.specs.declared.Lchan.TheVariants.{On, Lost}
 use Rattle.link_tables.specs.declared.AttemptEnd.{AttemptEnd}

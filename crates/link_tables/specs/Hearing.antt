@@ -1,6 +1,6 @@
 -- What a channel does where something is heard about it: messages of its station (TS 48.058 clauses 4 and 8), timers (TS 44.018
 -- clause 11.1.2), its link, operators. The numbers are those of docs/LINKS.md.
-use Rattle.std.specs.Prelude.{ℕ, ◌==◌, ◌&&◌, Bool, true, false, if◌then◌else◌, List, [], ◌∷◌, ◌++◌, map, find, Option, Some, None}
+use Rattle.std.specs.Prelude.{ℕ, ◌==◌, ◌&&◌, Bool, true, false, List, [], ◌∷◌, ◌++◌, map, find, Option, Some, None}
 use Rattle.link_tables.specs.declared.Lchan.{Lchan}
 use Rattle.link_tables.specs.declared.Lchan.TheVariants.{Rest, Activating, On, Mobile, Guard, Releasing, Closing, Reopening, Lost}
 use Rattle.link_tables.specs.declared.Heard.{Heard}
@@ -8,7 +8,6 @@ use Rattle.link_tables.specs.declared.Heard.TheVariants.{ActivationAck, Activati
 use Rattle.link_tables.specs.declared.Holder.{Holder}
 use Rattle.link_tables.specs.declared.Holder.TheVariants.{Nobody, Barred, Call}
 use Rattle.link_tables.specs.declared.Timer.TheVariants.{Activation, T3109, T3111, Release, Bar}
-use Rattle.link_tables.specs.declared.Act.{Act}
 use Rattle.link_tables.specs.declared.Act.TheVariants as act
 use Rattle.link_tables.specs.declared.Act.TheVariants.{Give, Pass, Count, RefuseInPlace, ReleaseInPlace, FailInPlace, KeepFailure, SendActivation, SendRelease, Start, Stop, OpenBar, EndBar}
 use Rattle.link_tables.specs.declared.Step.{Step}

@@ -1,13 +1,12 @@
 -- What a channel does behind a turn of the controller in which the book has moved: the difference between what the book says of
 -- it and what its station was told is what is sent. The numbers are those of docs/LINKS.md.
-use Rattle.std.specs.Prelude.{ℕ, ◌==◌, ◌&&◌, ◌||◌, Bool, true, false, List, [], ◌∷◌, ◌++◌, map, find, Option, Some, None}
+use Rattle.std.specs.Prelude.{◌&&◌, ◌||◌, Bool, true, false, List, [], ◌∷◌, ◌++◌, map, find, Option, Some, None}
 use Rattle.std.proofs.Math.Bool.{not}
 use Rattle.channel_fsm.specs.declared.ChanState.{ChanState}
 use Rattle.channel_fsm.specs.declared.ChanState.TheVariants as book
 use Rattle.link_tables.specs.declared.Lchan.{Lchan}
 use Rattle.link_tables.specs.declared.Lchan.TheVariants.{Rest, Activating, On, Mobile, Guard, Releasing, Closing, Reopening, Lost}
 use Rattle.link_tables.specs.declared.Timer.TheVariants.{Activation, T3109, Release}
-use Rattle.link_tables.specs.declared.Act.{Act}
 use Rattle.link_tables.specs.declared.Act.TheVariants as act
 use Rattle.link_tables.specs.declared.Act.TheVariants.{RefuseInPlace, ReleaseInPlace, SendActivation, KeepActivation, SendRelease, SendChannelRelease, SendDeactivateSacch, Start, Stop}
 use Rattle.link_tables.specs.declared.Circumstances.{Circumstances}
