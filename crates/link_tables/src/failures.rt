@@ -1,0 +1,22 @@
+//! What becomes of a failure that was kept while its call had an attempt at handover.
+ghost use Rattle.std.specs.Prelude.{◌≡◌};
+ghost use Rattle.link_tables.specs.Failures.{ended_step};
+
+use crate::{Act, AttemptEnd, Lchan, Step};
+
+/// What a channel whose failure was kept does where the attempt has ended: the controller is told of the failure, if the call is
+/// on this channel still, and its mobile didn't say itself, on a channel that is on, that it is.
+pub fn end_attempt(lchan: Lchan, end: AttemptEnd) -> Step
+    ensures table { result ≡ ended_step lchan end }
+{
+    let is_told = match lchan {
+        Lchan::On => end == AttemptEnd::TakenBack,
+        Lchan::Lost => end != AttemptEnd::Arrived,
+        Lchan::Rest | Lchan::Activating | Lchan::Mobile | Lchan::Guard => false,
+        Lchan::Releasing | Lchan::Closing | Lchan::Reopening => false,
+    };
+    if is_told {
+        return Step::one(Act::FailInPlace, lchan);
+    }
+    Step::none(lchan)
+}
