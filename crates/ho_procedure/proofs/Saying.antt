@@ -1,5 +1,5 @@
 -- What one view says of what it is asked, where another says more.
-use Rattle.std.proofs.Common.{◌≡◌, ◌++◌, ◌∷◌, [], ℕ, List, Option, Some, None, Result, Ok, Err, IfOk, IfErr, MatchOption}
+use Rattle.std.proofs.Common.{◌≡◌, ◌++◌, ◌∷◌, [], List, Option, Some, None, Result, Ok, Err, IfOk, IfErr, MatchOption}
 use Rattle.radio_book.specs.declared.event.Event.{Event}
 use Rattle.radio_book.specs.declared.ask.Ask.{Ask}
 use Rattle.radio_book.specs.declared.ask.Ask.TheVariants as ask
