@@ -4,3 +4,5 @@ pub mod Zeros
 pub mod Steps
 -- the reasons of refusals
 pub mod Refused
+-- all records of some octets
+pub mod Fronts
