@@ -1,6 +1,6 @@
 -- One record more.
-use Rattle.std.proofs.Common.{◌≡◌, ◌+◌, ◌-◌, ℕ, List, [], ◌∷◌, ◌++◌, length, length-append, append_assoc, map, take, inl, refl, sym, subst, ◌∙◌, ap, arith, lit<}
-use Rattle.std.proofs.lemmas.List.{append-nil, append_cancel_right, map-append, take_at}
+use Rattle.std.proofs.Common.{◌≡◌, ◌+◌, ◌-◌, ◌≤◌, ℕ, List, [], ◌∷◌, ◌++◌, length, length-append, append_assoc, map, take, drop, inl, refl, sym, subst, ◌∙◌, ap, arith, lit<}
+use Rattle.std.proofs.lemmas.List.{append-nil, append_cancel_right, map-append, take_at, drop_at}
 use Rattle.std.proofs.lemmas.List.Concat.{flat_map-append}
 use Rattle.std.proofs.lemmas.List.Elements.{All-nil, All-cons, All-push}
 use Rattle.radio_book.specs.declared.event.Event.{Event}
@@ -137,7 +137,7 @@ whole_journal sum site octets behind_line behind n head opening b last left line
 }
 
 -- what is empty may be left
-nothing_is_left : IsLeft []
+pub nothing_is_left : IsLeft []
 nothing_is_left = (λ number body behind begins. let long = record_is_long [] number body behind begins in let never : ⊥ = omega (arith, long) in absurd never, inl (lit< tt))
 
 -- without what was cut a file is a journal of the same book
@@ -168,3 +168,13 @@ uncut_front sum site n octets b last left journal =
     let size : length front ≡ length octets - length left = omega (arith, ap length is, length-append front left) in
     let same : take (length octets - length left) octets ≡ front = ap (take (length octets - length left)) is ∙ take_at front left (length octets - length left) size in
     uncut sum site n octets b last left (take (length octets - length left) octets) journal (is ∙ ap (λ f. f ++ left) (sym same))
+
+-- what is left stands at the end
+pub left_of_journal : (sum : ℕ) (site : SiteView) (n : ℕ) (octets : List ℕ) (b : State) (last : ℕ) (left : List ℕ) →
+    IsJournal sum site n octets b last left → (length left ≤ length octets) × (drop (length octets - length left) octets ≡ left)
+left_of_journal sum site n octets b last left journal =
+    let records : List Numbered = (n, journal.head) ∷ journal.records in
+    let front : List ℕ = first_line ++ records_text records in
+    let is : octets ≡ front ++ left = journal.text ∙ sym (append_assoc first_line (records_text records) left) in
+    let size : length front ≡ length octets - length left = omega (arith, ap length is, length-append front left) in
+    (omega (arith, ap length is, length-append front left), ap (drop (length octets - length left)) is ∙ drop_at front left (length octets - length left) size)

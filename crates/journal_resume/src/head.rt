@@ -58,15 +58,25 @@ pub(crate) fn site_line<A: Allocator + Copy>(alloc: A, sum: u32) -> Result<Strin
     format!(in alloc; "site {sum}\n")
 }
 
-/// The line of an event with the book's reply to it, as a trace has it.
-fn event_line<A: Allocator + Copy>(
+/// A line, and what follows it.
+fn joined<A: Allocator + Copy>(mut line: String<A>, behind: &str) -> Result<String<A>, AllocError>
+    ensures { IfOk result (λ text. string_bytes text ≡ string_bytes line ++ behind.now) }
+{
+    line.push_str(behind)?;
+    Ok(line)
+}
+
+/// Lines, and behind them that of an event with the book's reply to it, as a trace has it.
+fn with_line<A: Allocator + Copy>(
     alloc: A,
+    lines: String<A>,
     event: Event,
     reply: Reply,
 ) -> Result<String<A>, AllocError>
-    ensures { IfOk result (λ line. string_bytes line ≡ spec.event_line event reply) }
+    ensures { IfOk result (λ text. string_bytes text ≡ string_bytes lines ++ spec.event_line event reply) }
 {
-    format!(in alloc; "event {} -> {}\n", EventText(event), ReplyText(reply))
+    let line = format!(in alloc; "event {} -> {}\n", EventText(event), ReplyText(reply))?;
+    joined(lines, line.as_str())
 }
 
 /// The lines of events, each with the reply of a book that is asked them one after another.
@@ -80,18 +90,9 @@ fn event_lines<A: Allocator + Copy>(
     let mut lines = String::new(alloc);
     for event in events {
         let reply = book.step(*event)?;
-        let line = event_line(alloc, *event, reply)?;
-        lines.push_str(line.as_str())?;
+        lines = with_line(alloc, lines, *event, reply)?;
     }
     Ok(lines)
-}
-
-/// A line, and what follows it.
-fn joined<A: Allocator + Copy>(mut line: String<A>, behind: &str) -> Result<String<A>, AllocError>
-    ensures { IfOk result (λ text. string_bytes text ≡ string_bytes line ++ behind.now) }
-{
-    line.push_str(behind)?;
-    Ok(line)
 }
 
 /// The text of a head: the line of the site, and those of the events that are known to lead to the book.

@@ -1,0 +1,2 @@
+-- a journal's file that is begun
+pub mod Beginnings
