@@ -39,6 +39,10 @@ IsWholeReason (fault.Damaged place) octets =
     (records : List Numbered) × (behind : List ℕ) × (left : List ℕ) × (octets ≡ first_line ++ behind) × AreAll records behind left
     × (place + length left ≡ length octets) × (IsEnd left → ⊥)
 
+-- This is the trace that a file has: of a journal's all but what was cut, of another all.
+abbrev pub IsTraceOf : List ℕ → List ℕ → Type 0
+IsTraceOf octets trace = IsWhole octets trace ⊎ ((Begins kind octets → ⊥) × (trace ≡ octets))
+
 -- The number of the last of some records, where the first has this number and each other one that behind the one before.
 abbrev pub IsLast : ℕ → List Numbered → Option ℕ → Type 0
 IsLast first records None = (records ≡ []) ⊎ (AreNumbered first records → ⊥)

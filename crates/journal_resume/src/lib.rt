@@ -17,4 +17,4 @@ pub use head::{HeadFault, head_body};
 pub use journal::resume;
 pub use resuming::{ResumeFault, Resumed};
 pub use sent::{last_number, tell_sent};
-pub use wholes::{WholeFault, whole_octets};
+pub use wholes::{WholeFault, trace_octets, whole_octets};

@@ -1,7 +1,7 @@
 //! All records of a file.
-ghost use Rattle.std.specs.Prelude.{List, IfOk, IfErr};
+ghost use Rattle.std.specs.Prelude.{◌≢◌, List, Err, IfOk, IfErr};
 ghost use Rattle.journal_resume.specs.Resume.{Numbered};
-ghost use Rattle.journal_resume.specs.Wholes.{AreAll, IsWhole, IsWholeReason};
+ghost use Rattle.journal_resume.specs.Wholes.{AreAll, IsWhole, IsTraceOf, IsWholeReason};
 
 use crate::ends::is_end;
 use journal_records::{FileFault, behind_first_line, first_record};
@@ -46,5 +46,20 @@ pub fn whole_octets(octets: &[u8]) -> Result<&[u8], WholeFault>
         Ok(octets.split_at(place).0)
     } else {
         Err(WholeFault::Damaged(place))
+    }
+}
+
+/// The octets of a trace, which may be a journal's file: of such a file all but a record at its end that was cut.
+///
+/// A journal's file is refused only for the reason that the fault says; nothing else is refused.
+pub fn trace_octets(octets: &[u8]) -> Result<&[u8], WholeFault>
+    ensures trace { IfOk result (λ trace. IsTraceOf octets.now trace.now) }
+    ensures reason { IfErr result (λ fault. IsWholeReason fault octets.now) }
+    ensures kind { result ≢ Err (WholeFault.File FileFault.NotAJournal) }
+{
+    match whole_octets(octets) {
+        Ok(whole) => Ok(whole),
+        Err(WholeFault::File(FileFault::NotAJournal)) => Ok(octets),
+        Err(fault) => Err(fault),
     }
 }
