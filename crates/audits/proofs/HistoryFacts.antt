@@ -23,7 +23,7 @@ remains_apart d audit of is =
     cc in
     (found.0, found.1, apart)
 
--- the same of a history that is legal, where the audit may have failed
+-- a history that is legal remains alike, where the audit may have failed
 pub same_in : {E : Type 0} (d : DeskState) (r : Result Audit E) → Leads d.opening d.history d.book → IfOk r (IsAuditOf d)
     → IfOk r (λ (audit : Audit). audit.same ≡ true → OfTheHistory LeadsAlike d.opening (events_in d.history))
 same_in d (Ok audit) legal of = λ is. (d.history, d.book, refl, legal, remains_alike d audit of is)
@@ -34,7 +34,7 @@ pub differs_in : {E : Type 0} (d : DeskState) (r : Result Audit E) → Leads d.o
 differs_in d (Ok audit) legal of = λ is. (d.history, d.book, refl, legal, remains_apart d audit of is)
 differs_in d (Err e) legal of = tt
 
--- the same of another name of the book, and of the events
+-- what holds of a book holds under another name of it, and of its events
 pub of_book : (P : State → List StepAt → State → Type 0) (b b' : State) (es : List Event) (T : Type 0) → b ≡ b' → (T → OfTheHistory P b es) → T → OfTheHistory P b' es
 of_book P b b' es T same h t = subst (λ x. OfTheHistory P x es) same (h t)
 

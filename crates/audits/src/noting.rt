@@ -37,7 +37,7 @@ impl<A: Allocator + Copy> SideLines<A> {
     }
 }
 
-/// The same of each controller.
+/// The lines of the events of each controller.
 #[derive(Drop)]
 pub struct EventLines<A: Allocator = Global> {
     first: SideLines<A>,
@@ -118,7 +118,7 @@ impl<'a, L: Listener<A>, A: Allocator + Copy> Noting<'a, L, A> {
         self.beside = Some(beside);
     }
 
-    /// The same, where the run ended.
+    /// What is told beside the audits, once the run ended.
     pub(crate) fn into_beside(self) -> Option<AllBeside<A>> {
         let Noting {
             listener: _,

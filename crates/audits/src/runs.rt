@@ -29,7 +29,7 @@ pub struct Found {
     pub held: Option<usize>,
 }
 
-/// The same of the controllers of a run: the first, and its peer where there is one.
+/// What the audits of a run's controllers found: of the first, and of its peer where there is one.
 #[derive(Clone, Copy, Debug, PartialEq, Eq)]
 pub struct Audits {
     pub first: Found,
@@ -52,7 +52,7 @@ fn found_of<A: Allocator + Copy>(
     Ok(Found { audit, held })
 }
 
-/// The same of the peer, where there is one.
+/// What the audit of the peer found, where there is one.
 fn peer_found<A: Allocator + Copy>(
     peer: &Option<Controller<view::Noting<A>, A>>,
     lines: &EventLines<A>,
@@ -116,7 +116,7 @@ pub struct AllBeside<A: Allocator = Global> {
     peer: Option<Beside<A>>,
 }
 
-/// The same of a run whose lines were noted.
+/// What is told beside the audits of a run whose lines were noted.
 fn all_beside<A: Allocator + Copy>(
     alloc: A,
     run: &Run<A>,

@@ -19,7 +19,7 @@ pub struct Beside<A: Allocator = Global> {
     pub difference: Vec<u8, A>,
 }
 
-/// The same of what a book was asked: its events, their replies, their lines, and the choices.
+/// What is told beside an audit of what a book was asked: its events, their replies, their lines, and the choices.
 pub fn beside_of<A: Allocator + Copy>(
     alloc: A,
     book: &Book<A>,

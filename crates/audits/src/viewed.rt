@@ -23,7 +23,7 @@ pub struct AskedRun<'a> {
 /// What the audits of the controllers of a run come to, and what is told beside them.
 type Told = (Audits, AllBeside);
 
-/// The same where anything was run, and whether the files of its views were
+/// What was told, where anything was run, and whether the files of its views were
 /// written.
 type Ended = (Option<Told>, Result<(), LabFault>);
 
@@ -59,7 +59,7 @@ fn summed<T: Drop, W: Write>(
     Ok(audits)
 }
 
-/// The same with a viewer that prints to a writer which counts lines, and writes what the viewer gathered to the files of its
+/// Runs a script with a viewer that prints to a writer which counts lines, and writes what it gathered to the files of its
 /// views, where something was run.
 fn run_counted<F: Write + OpenFile + Drop, W: Write, E: Write>(
     alloc: Global,
@@ -84,7 +84,7 @@ fn run_counted<F: Write + OpenFile + Drop, W: Write, E: Write>(
     Ok((ended?, written))
 }
 
-/// The same with any writer.
+/// Runs a script with a viewer that prints to any writer.
 fn run_viewed<F: Write + OpenFile + Drop, W: Write, E: Write>(
     alloc: Global,
     asked: AskedRun<'_>,

@@ -6,8 +6,8 @@ use Rattle.rr_messages.specs.declared.fault.RrFault.{RrFault}
 use Rattle.rr_messages.specs.declared.fault.RrFault.TheVariants as rr
 use Rattle.bssmap_messages.specs.declared.fault.BssmapFault.{BssmapFault}
 use Rattle.bssmap_messages.specs.declared.fault.BssmapFault.TheVariants as bssmap
-use Rattle.exchange.specs.declared.Fault.{Fault as Stopped}
-use Rattle.exchange.specs.declared.Fault.TheVariants as stopped
+use Rattle.ho_procedure.specs.declared.following.Stop.{Stop}
+use Rattle.ho_procedure.specs.declared.following.Stop.TheVariants as stop
 use Rattle.cell_table.specs.declared.fault.SiteFault.{SiteFault}
 use Rattle.cell_table.specs.declared.fault.SiteFault.TheVariants as site
 use Rattle.bench_cases.specs.declared.fault.Fault.{Fault}
@@ -25,21 +25,21 @@ abbrev pub of_abis : RslFault → Fault
 of_abis rsl.NoMemory = NoMemory
 of_abis _ = Words
 
--- the same of a fault of a radio resource message
+-- what a fault of a radio resource message comes to
 abbrev pub of_radio : RrFault → Fault
 of_radio rr.NoMemory = NoMemory
 of_radio _ = Words
 
--- the same of a fault of a message on A
+-- what a fault of a message on A comes to
 abbrev pub of_a : BssmapFault → Fault
 of_a bssmap.NoMemory = NoMemory
 of_a _ = Words
 
--- the same of a fault of the procedure; a desk that isn't the controller's own can't be asked
-abbrev pub of_procedure : {A : Type 0} → Stopped A → Fault
-of_procedure (stopped.NoMemory owed) = NoMemory
-of_procedure (stopped.Undecoded link bad) = Words
-of_procedure (stopped.Desk place owed) = Setting
+-- what a fault of the procedure comes to; a desk that isn't the controller's own can't be asked
+abbrev pub of_procedure : Stop → Fault
+of_procedure stop.NoMemory = NoMemory
+of_procedure (stop.Undecoded link bad) = Words
+of_procedure (stop.Desk place) = Setting
 
 -- what a refused site comes to: the setting is refused
 abbrev pub of_site : SiteFault → Fault

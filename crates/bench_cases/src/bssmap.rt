@@ -67,7 +67,7 @@ fn request_sum(message: &Bssmap) -> Result<u64, Fault> {
     }
 }
 
-/// The same of a HANDOVER REQUIRED, with 1 where a response is requested.
+/// What the fields of a HANDOVER REQUIRED add up to, with 1 where a response is requested.
 fn required_sum(message: &Bssmap) -> Result<u64, Fault> {
     match message {
         Bssmap::HandoverRequired {

@@ -26,7 +26,7 @@ pub enum Task {
     /// An attempt at handover to a cell that a seed picks: the book chooses a free channel of full rate and a free
     /// reference, and the attempt is undone. Three events of the radio book, beside 1,024 other calls on 64 cells.
     ChooseFull,
-    /// The same at half rate, on a site whose odd timeslots also carry halves.
+    /// An attempt at handover at half rate, on a site whose odd timeslots also carry halves; else as `ChooseFull`.
     ChooseHalf,
     /// Takes an undone attempt at handover out of a list of a hundred events.
     RewindList,
@@ -234,7 +234,7 @@ const ACTIVATION: &[u8] = &[
 /// CHANNEL ACTIVATION ACKNOWLEDGE of timeslot 3 with frame number 4660.
 const ACKNOWLEDGEMENT: &[u8] = &[0x08, 0x22, 0x01, 0x0B, 0x08, 0x12, 0x34];
 
-/// The same of timeslot 1.
+/// CHANNEL ACTIVATION ACKNOWLEDGE of timeslot 1 with frame number 4660.
 const ACKNOWLEDGEMENT_1: &[u8] = &[0x08, 0x22, 0x01, 0x09, 0x08, 0x12, 0x34];
 
 /// MEASUREMENT RESULT of timeslot 3 with number 0 and three octets of uplink measurements; its report has one

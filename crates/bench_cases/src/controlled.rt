@@ -10,14 +10,21 @@ use radio_desk::desk::Desk;
 use rsl_messages::Octets;
 use std::alloc::{AllocError, Global};
 
-/// A controller at a desk of its own.
-pub(crate) type Single = Controller<Solo, Global>;
+/// A controller at a desk of its own, and the list in which it puts messages.
+#[derive(Drop)]
+pub(crate) struct Single {
+    controller: Controller<Solo, Global>,
+    sent: Vec<Outbound, Global>,
+}
 
 /// The controller of a book, at a desk that opens with it.
 pub(crate) fn controller_of(alloc: Global, book: Book) -> Result<Single, AllocError> {
     let site = book.site().clone()?;
     let view = Solo::new(Desk::new(alloc, book)?);
-    Ok(Controller::new(alloc, view, site))
+    Ok(Single {
+        controller: Controller::new(alloc, view, site),
+        sent: Vec::new(alloc),
+    })
 }
 
 /// The sum of the octets of a message.
@@ -28,10 +35,10 @@ fn message_sum(message: &Outbound) -> u64 {
 }
 
 /// Handles one input. The sum is that of the octets of all messages that are sent.
-pub(crate) fn handle(controller: &mut Single, input: Inbound) -> Result<u64, Fault> {
-    let sent = controller.handle(input)?;
+pub(crate) fn handle(single: &mut Single, input: Inbound) -> Result<u64, Fault> {
+    single.controller.handle_into(input, &mut single.sent)?;
     let mut sum = 0u64;
-    for message in &sent {
+    for message in &single.sent {
         sum = sum.wrapping_add(message_sum(message));
     }
     Ok(sum)

@@ -4,10 +4,10 @@ ghost use Rattle.bench_cases.specs.Statuses.{status_of};
 
 use bssmap_messages::BssmapFault;
 use cell_table::SiteFault;
-use exchange::Fault as Stopped;
+use ho_procedure::controller::Stop;
 use rr_messages::RrFault;
 use rsl_messages::RslFault;
-use std::alloc::{AllocError, Allocator};
+use std::alloc::AllocError;
 use std::io;
 use thiserror::Error;
 
@@ -90,16 +90,16 @@ impl From<BssmapFault> for Fault {
     }
 }
 
-impl<A: Allocator> From<Stopped<A>> for Fault {
+impl From<Stop> for Fault {
     ghost use Rattle.bench_cases.specs.Statuses.{of_procedure};
 
     ghost from_gives = { λ cause fault. fault ≡ of_procedure cause };
 
-    fn from(cause: Stopped<A>) -> Self {
+    fn from(cause: Stop) -> Self {
         match cause {
-            Stopped::NoMemory(_) => Self::NoMemory,
-            Stopped::Undecoded(_, _) => Self::Words,
-            Stopped::Desk(_, _) => Self::Setting,
+            Stop::NoMemory => Self::NoMemory,
+            Stop::Undecoded(_, _) => Self::Words,
+            Stop::Desk(_) => Self::Setting,
         }
     }
 }

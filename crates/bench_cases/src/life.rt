@@ -47,7 +47,7 @@ pub(crate) fn chan_at(cell: u8, place: u8) -> ChanId
     chan_of(cell, place + 1, Sub::Full)
 }
 
-/// The same where each odd timeslot has two places, its halves.
+/// The traffic channel of a cell at this place, where each odd timeslot has two places, its halves.
 fn chan_beside_halves(cell: u8, place: u8) -> ChanId
     requires { place < 23 }
 {
@@ -143,7 +143,7 @@ pub(crate) fn crowded_book(alloc: Global, text: &str, rate: Rate) -> Result<Book
     Ok(book)
 }
 
-/// The same with the call, which is steady on the first channel of cell 0 that the others leave free.
+/// A crowded book with the call, which is steady on the first channel of cell 0 that the others leave free.
 pub(crate) fn busy_book(alloc: Global, text: &str, rate: Rate) -> Result<Book, Fault> {
     let mut book = crowded_book(alloc, text, rate)?;
     settle(&mut book, CALL, place_of(rate, 0, OTHERS))?;

@@ -155,7 +155,7 @@ fn channel_at(place: u16) -> ChanId {
     }
 }
 
-// The same by a timeslot's parts too: the whole of it, then its halves.
+// The channel at a place, by a timeslot's parts too: the whole of it, then its halves.
 fn part_at(place: u16) -> ChanId {
     let sub = match place % 3 {
         0 => Sub::Full,

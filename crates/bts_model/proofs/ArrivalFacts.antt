@@ -83,7 +83,7 @@ two w x d c hd hc =
     ap (λ o. followed (kept_or_sent w x Detection o) (all_leave (kept_or_sent w x Detection o).world x (Complete ∷ []))) hd
     ∙ ap (λ o. followed (kept_or_sent w x Detection d) (followed (kept_or_sent (kept_or_sent w x Detection d).world x Complete o) (silent (kept_or_sent (kept_or_sent w x Detection d).world x Complete o).world))) hc
 
--- the same at once: what no hold keeps leaves, and each hold has kept its own
+-- an arrival at once: what no hold keeps leaves, and each hold has kept its own
 pub arrived : (w : WorldState) (x : Place) (d c : Option ℕ) → hold_of w.holds x Detection ≡ d → hold_of w.holds x Complete ≡ c
     → all_leave w x (Detection ∷ Complete ∷ [])
     ≡ record { world = record (with_slot w x (slot_after (slot_in w.slots x) (unkept d c))) { holds = kept_in (kept_in w.holds d Detection) c Complete }; sent = all_departed (slot_in w.slots x).impairment x (unkept d c) }

@@ -32,7 +32,7 @@ used_up slot = if is_impaired slot.impairment then Some (record slot { impairmen
 abbrev pub keeping : List Hold → ℕ → Answer → List Hold
 keeping holds n answer = unwrap_or (option_map (λ h. slice_set holds n (record h { kept = Some answer })) (slice_get holds n)) holds
 
--- the same, where there is such a hold
+-- an answer is kept by a hold, where there is such a one
 abbrev pub kept_in : List Hold → Option ℕ → Answer → List Hold
 kept_in holds None answer = holds
 kept_in holds (Some n) answer = keeping holds n answer
@@ -55,7 +55,7 @@ abbrev pub all_leave : WorldState → Place → List Answer → Outcome
 all_leave w x [] = silent w
 all_leave w x (answer ∷ answers) = followed (leaves w x answer) (all_leave (leaves w x answer).world x answers)
 
--- The same where no hold keeps any: something befalls the first alone.
+-- what departs where no hold keeps any: something befalls the first alone
 abbrev pub all_departed : Impairment → Place → List Answer → List (Place × List ℕ)
 all_departed i x [] = []
 all_departed i x (answer ∷ answers) = departed i x answer ++ all_departed unimpaired x answers

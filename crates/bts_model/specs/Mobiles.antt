@@ -50,7 +50,7 @@ abbrev pub arriving : Option Place → Response
 arriving None = Returned
 arriving (Some y) = Arrived y
 
--- the same by its habit
+-- what a mobile does by its habit
 abbrev pub by_habit : Habit → Option Place → Response
 by_habit Arrive target = arriving target
 by_habit Return target = Returned

@@ -35,7 +35,7 @@ responded w x Unheard = silent w
 responded w x Returned = all_leave w x (Failure ∷ [])
 responded w x (Arrived y) = all_leave w y (Detection ∷ Complete ∷ [])
 
--- the same of the one to which a message comes on the main signalling channel
+-- what the mobile does to which a message comes on the main signalling channel
 abbrev pub passed_on : WorldState → Place → ℕ → Option Rr → Outcome
 passed_on w x link None = silent w
 passed_on w x link (Some message) = if link == main_signalling then responded w x (response_to w.trxs w.slots x message) else silent w

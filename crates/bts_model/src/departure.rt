@@ -110,7 +110,7 @@ fn used_up(slot: Slot) -> Option<Slot>
     }
 }
 
-/// The same once these answers have.
+/// What is left of a slot once these answers have left.
 fn slot_after(slot: Slot, answers: &[Answer]) -> Option<Slot>
     ensures { result ≡ slot_after slot answers.now }
 {

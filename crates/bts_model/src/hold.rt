@@ -114,7 +114,7 @@ pub fn keep<A: Allocator>(holds: &mut Vec<Hold, A>, hold: usize, answer: Answer)
     holds[hold].kept = Some(answer);
 }
 
-/// The same, where there is such a hold.
+/// Keeps an answer, where there is such a hold.
 pub fn keep_in<A: Allocator>(holds: &mut Vec<Hold, A>, hold: Option<usize>, answer: Answer)
     requires { IfSome hold (λ n. n < length holds.old.items) }
     ensures kept { holds.new.items ≡ kept_in holds.old.items hold answer }

@@ -117,7 +117,7 @@ impl<A: Allocator + Copy> Slots<A> {
         self.put_at(key_of(place), slot)
     }
 
-    /// The same of the channel with a key.
+    /// Keeps what is known of the channel with a key.
     fn put_at(&mut self, key: Key, slot: Slot) -> Result<(), AllocError>
         ensures ok { OnOk result (self.new ≡ map.insert self.old key slot) }
         ensures err { OnErr result (self.new ≡ self.old) }
@@ -127,7 +127,7 @@ impl<A: Allocator + Copy> Slots<A> {
         Ok(())
     }
 
-    /// The same where the channel changes.
+    /// Keeps what is known of a channel, or that nothing is.
     pub fn change(&mut self, place: Place, slot: Option<Slot>) -> Result<(), AllocError>
         ensures ok { OnOk result (self.new ≡ changed self.old place slot) }
         ensures err { OnErr result (self.new ≡ self.old) }

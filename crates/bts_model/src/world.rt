@@ -259,7 +259,7 @@ impl<A: Allocator + Copy> World<A> {
         self.tell(place, link, heard)
     }
 
-    /// The same of what the octets say.
+    /// Tells the channel what the octets say.
     fn tell(&mut self, place: Place, link: u8, heard: Option<Rr>) -> Outs<A>
         ensures gives { IfOk result (λ outs. Gives
             (at_channel self.old place (passed_on self.old place link heard)) self.new outs.items) }

@@ -45,7 +45,7 @@ fault_told octets u NoMemory g is h m f = let t = m refl in rw is (not_memory _ 
 pub none_of : {X : Type 0} (m : X) (f : RslFault) (P : Type 0) → (Ok m ≡ Err (give.Undecoded f)) ↔ P → P → ⊥
 none_of m f P h p = let e : Ok m ≡ Err (give.Undecoded f) = h.1 p in (cc)
 
--- the same fault of another call
+-- a fault that a call hands on as another's
 pub passed_on : {X Y : Type 0} (g : GiveFault) (f : RslFault) (P : Type 0) → (fails X g ≡ fails X (give.Undecoded f)) ↔ P → (fails Y g ≡ fails Y (give.Undecoded f)) ↔ P
 passed_on {X} {Y} g f P h = ((λ (e : fails Y g ≡ fails Y (give.Undecoded f)). let same : g ≡ give.Undecoded f = (cc) in h.0 (ap (λ (k : GiveFault). fails X k) same)), λ p. let e : fails X g ≡ fails X (give.Undecoded f) = h.1 p in let same : g ≡ give.Undecoded f = (cc) in ap (λ (k : GiveFault). fails Y k) same)
 

@@ -75,7 +75,7 @@ fn first_wrong_of<L, A: Allocator + Copy>(
     None
 }
 
-/// The same of the receipts of the office, and then of its workers.
+/// The first wrong receipt of the office, or else of its workers.
 fn first_wrong_of_all<L, A: Allocator + Copy>(
     desk: &Desk<A>,
     front: &[Receipt],

@@ -27,7 +27,7 @@ pub trait Links {
         ensures refused { refused self.new ≡ refused self.old };
 }
 
-/// The same message once more, in memory of `alloc`: links that keep a message keep it in their own. Memory is asked for,
+/// A copy of a message, in memory of `alloc`: links that keep a message keep it in their own. Memory is asked for,
 /// for the octets of a message that has some.
 pub fn copy_of<A: Allocator + Copy, B: Allocator>(
     alloc: A,

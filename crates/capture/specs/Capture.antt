@@ -30,7 +30,7 @@ pub record AddsFrame {A : Type 0} (old new : Capture A) (seconds : ℕ) (p : Pat
   pub stream : stream_of new (far p.side p.link) ≡ behind way (stream_of old (far p.side p.link)) (length load)
   pub others : (address : ℕ) → address ≢ far p.side p.link → stream_of new address ≡ stream_of old address
 
--- the same of a message in the frame of its link
+-- a packet is added: a message in the frame of its link
 abbrev pub Adds : {A : Type 0} → Capture A → Capture A → ℕ → Path → Way → List ℕ → Type 0
 Adds old new seconds p way message = AddsFrame old new seconds p way (frame p.link message)
 

@@ -174,7 +174,7 @@ pub fn broken_rule(site: &Tables) -> Option<SiteFault>
     broken_by_pairs(site)
 }
 
-/// The same, as two cells, TRX, timeslots or carriers show it of which one is like the other.
+/// The first rule that the cells break together, as two cells, TRX, timeslots or carriers show it of which one is like the other.
 #[tactic(auto, unfolding(crate::specs::Searches::broken_by_pairs))]
 fn broken_by_pairs(site: &Tables) -> Option<SiteFault>
     ensures value { result ≡ broken_by_pairs site.now }

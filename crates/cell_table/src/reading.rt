@@ -173,7 +173,7 @@ fn trx_with(arfcn: u16, first: bool, trx: &Value) -> Result<Trx, SiteFault>
     trx_by(arfcn, tch_range(first), slots, trx)
 }
 
-/// The same, by the entries of `tch`.
+/// A TRX with its traffic channels, by the entries of `tch`.
 fn trx_by(arfcn: u16, range: Allowed, slots: &[Value], trx: &Value) -> Result<Trx, SiteFault>
     requires { range.most < timeslots_of_trx }
     ensures read { result ≡ trx_by arfcn range (map view slots.now) (view trx.now) }

@@ -328,7 +328,7 @@ fn tables_of(document: &Value) -> Result<Tables, SiteFault>
     kept_tables(document)
 }
 
-/// The same, by what is kept: of nine timeslots of a TRX two are the same, so that those after them tell nothing new.
+/// What a document says, by what is kept: of nine timeslots of a TRX two are the same, so that those after them tell nothing new.
 #[tactic(auto, unfolding(crate::specs::Kept::kept_site))]
 fn kept_tables(document: &Value) -> Result<Tables, SiteFault>
     ensures read { result ≡ kept_site (view document.now) }

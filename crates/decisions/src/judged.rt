@@ -82,6 +82,7 @@ pub fn judge<W: Allocator, S: Allocator + Copy>(
         cell ≢ serving → length window.now.reports ≡ site.now.handover.window →
         (judged.lack ≡ Lack.Nothing) ↔
         IsCandidate window.now site.now serving (record { cell = cell; sum = judged.sum })) }
+    ensures named { IfSome result (λ judged. (position : ℕ) × (bsic : ℕ) × IsNamedCell site.now serving position bsic cell) }
     ensures none { IfNone result ((position bsic : ℕ) → ¬ IsNamedCell site.now serving position bsic cell) }
 {
     let (position, bsic) = site.reported_as(serving, cell)?;

@@ -57,7 +57,7 @@ more_own [] octets octet some two e read = absurd (omega arith)
 more_own (b ∷ []) octets octet some two e read = absurd (omega arith)
 more_own (b ∷ c ∷ rest) octets octet some two e read = next_octet b c rest octets octet e read
 
--- The same of a text whose first octets are read by their places.
+-- A separator in front is passed over, of a text whose first octets are read by their places.
 pub skip : (xs : List ℕ) → 1 ≤ length xs → is_separator (slice_index xs 0) ≡ true → octets_of (tail xs) ≡ octets_of xs
 skip xs some e = ap octets_of (tail_is xs) ∙ skip_own xs some e
 

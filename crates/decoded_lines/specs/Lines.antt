@@ -26,7 +26,7 @@ text_of line = before_first is_mark line
 abbrev pub note_of : List ℕ → Option (List ℕ)
 note_of line = option_map (λ _. after_first is_mark line) (position is_mark line)
 
--- the same of a line without the carriage return that may end it
+-- the text of a line without the carriage return that may end it
 abbrev pub text_in : List ℕ → List ℕ
 text_in line = text_of (strip_carriage_return line)
 

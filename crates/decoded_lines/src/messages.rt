@@ -208,7 +208,7 @@ pub fn print_or_fault<A: Allocator + Copy, W: Write>(
     }
 }
 
-/// The same; whether the octets are a message of the link.
+/// Prints a message; whether the octets are a message of the link.
 pub fn print_message<A: Allocator + Copy, W: Write>(
     alloc: A,
     link: LinkName,

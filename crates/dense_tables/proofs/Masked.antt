@@ -42,7 +42,7 @@ module _ (site : SiteView) (states : List ChanState) (masks : List ℕ) (are : A
   free_masked_at : TrafficLiesWithin site → (rate : Rate) (x : ChanId) → IsFreeAt (record { site = site; states = states_of site states }) cell rate x → IsMaskedAt masks cell rate x
   free_masked_at lies rate x free = record { masked = free_masked lies x free.free; rate = free.rate }
 
-  -- the same, where one was found or none
+  -- a masked channel that was found, if one was, is free at the rate
   pub found_free : (rate : Rate) (o : Option ChanId) → IfSome o (λ x. IsMaskedAt masks cell rate x) → IfSome o (λ x. IsFreeAt (record { site = site; states = states_of site states }) cell rate x)
   found_free rate None masked = tt
   found_free rate (Some x) masked = record { free = masked_free x masked.masked; rate = masked.rate }

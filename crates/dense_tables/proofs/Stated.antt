@@ -176,7 +176,7 @@ way_alike site states later y same =
     ap (λ o. is_traffic site y && is_none o)
     (way_same (λ z. or_free (state_at site later z)) (λ z. or_free (state_at site states z)) y (λ s. ap or_free (same s)))
 
--- the same by the places of the channels
+-- whether a channel is free, by the places of the channels
 by_places : (site : SiteView) → IsSite site → (states : List ChanState) (places : List (Option ℕ)) → ArePlaces site places → (y : ChanId) → is_free_by places states y ≡ is_free_at site states y
 by_places site is states places are y =
     (λ i. is_some (are y i) && is_none (first_in_way (λ z. or_free (there states (are z i))) y))

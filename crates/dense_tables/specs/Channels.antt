@@ -49,7 +49,7 @@ pub record IsFreeIn (c : Channels) (cell : ℕ) (x : ChanId) : Type 0 where
   pub traffic : is_traffic c.site x ≡ true
   pub is_free : first_in_way (state_of c) x ≡ None
 
--- the same at a rate (TS 45.002 clause 3.2)
+-- a free channel of a cell at a rate (TS 45.002 clause 3.2)
 pub record IsFreeAt (c : Channels) (cell : ℕ) (asked : Rate) (x : ChanId) : Type 0 where
   pub free : IsFreeIn c cell x
   pub rate : rate_of x.sub ≡ asked
@@ -122,7 +122,7 @@ mask_at masks x = has (slice_index_or masks (mask_place x) 0) x.tn
 abbrev pub is_free_at : SiteView → List ChanState → ChanId → Bool
 is_free_at site states x = is_traffic site x && is_none (first_in_way (λ y. or_free (state_at site states y)) x)
 
--- the same by the places of the channels
+-- a channel's state, by the places of the channels
 abbrev pub state_by : List (Option ℕ) → List ChanState → ChanId → ChanState
 state_by places states x = or_free (option_and_then (λ place. busy (slice_index_or states place Free)) (place_at places x))
 
@@ -145,12 +145,12 @@ pub record IsMasked (masks : List ℕ) (cell : ℕ) (x : ChanId) : Type 0 where
   pub limits : IsWithinLimits x
   pub there : mask_at masks x ≡ true
 
--- the same at a rate
+-- a masked channel of a cell at a rate
 pub record IsMaskedAt (masks : List ℕ) (cell : ℕ) (asked : Rate) (x : ChanId) : Type 0 where
   pub masked : IsMasked masks cell x
   pub rate : rate_of x.sub ≡ asked
 
--- the same of a TRX, with this part of a timeslot
+-- a masked channel of a TRX, with this part of a timeslot
 pub record IsMaskedWith (masks : List ℕ) (cell of_trx : ℕ) (part : Sub) (x : ChanId) : Type 0 where
   pub masked : IsMasked masks cell x
   pub trx : x.trx ≡ of_trx
@@ -161,7 +161,7 @@ pub record IsFirstWith (masks : List ℕ) (cell trx : ℕ) (sub : Sub) (x : Chan
   pub there : IsMaskedWith masks cell trx sub x
   pub first : (y : ChanId) → IsMaskedWith masks cell trx sub y → x.tn ≤ y.tn
 
--- the same at a rate: none stands before it by timeslot, then half
+-- the first masked channel of a TRX at a rate: none stands before it by timeslot, then half
 pub record IsFirstAt (masks : List ℕ) (cell of_trx : ℕ) (asked : Rate) (x : ChanId) : Type 0 where
   pub there : IsMaskedAt masks cell asked x
   pub trx : x.trx ≡ of_trx

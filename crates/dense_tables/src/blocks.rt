@@ -3,7 +3,7 @@ ghost use Rattle.std.specs.Prelude.{◌≡◌, IfOk};
 
 use std::alloc::{AllocError, Allocator};
 
-/// The same list again: one block of memory, copied whole.
+/// A copy of a list: one block of memory, copied whole.
 pub fn copy_of<T: Copy, A: Allocator + Copy>(list: &Vec<T, A>) -> Result<Vec<T, A>, AllocError>
     ensures same { IfOk result (λ copy. copy.items ≡ list.now.items) }
 {

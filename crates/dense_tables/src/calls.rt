@@ -80,7 +80,7 @@ impl<E: Entry, A: Allocator + Copy> CallSlots<E, A> {
         })
     }
 
-    /// The same of each call again.
+    /// A copy of what is kept of each call.
     pub fn copy(&self) -> Result<CallSlots<E, A>, AllocError>
         ensures copy { IfOk result (λ copy. copy ≡ self.now) }
     {

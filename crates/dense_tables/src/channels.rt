@@ -67,7 +67,7 @@ impl<A: Allocator + Copy> ChannelStates<A> {
         })
     }
 
-    /// The same states again, of the same site.
+    /// A copy of the states; both share the site.
     pub fn copy(&self) -> Result<ChannelStates<A>, AllocError>
         ensures copy { IfOk result (λ copy. copy ≡ self.now) }
     {

@@ -54,7 +54,7 @@ impl<A: Allocator + Copy> ReferenceRows<A> {
         })
     }
 
-    /// The same rows again.
+    /// A copy of the rows.
     pub fn copy(&self) -> Result<ReferenceRows<A>, AllocError>
         ensures copy { IfOk result (λ copy. copy ≡ self.now) }
     {

@@ -65,7 +65,7 @@ AreRead (ClearCommand cause) = Unit {0}
 AreRead ClearComplete = Unit {0}
 AreRead (ClearRequest cause) = Unit {0}
 
--- the same message, whose fields are so
+-- one is the other without octets, and its fields are so
 abbrev Same : {A : Type 0} → Bssmap A → Bssmap Unit → Type 0
 Same v w = (w ≡ bare v) × AreRead v
 

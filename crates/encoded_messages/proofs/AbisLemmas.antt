@@ -42,7 +42,7 @@ AreRead (MeasurementResult c number uplink power layer3) = (c.tn < 8) × IfSome 
 AreRead (RfChannelRelease c) = c.tn < 8
 AreRead (RfChannelReleaseAck c) = c.tn < 8
 
--- the same message, whose fields are so
+-- one is the other without octets, and its fields are so
 abbrev Same : {A : Type 0} → Rsl A → Rsl Unit → Type 0
 Same v w = (w ≡ bare v) × AreRead v
 

@@ -174,7 +174,7 @@ can_be_written (ClearRequest cause) = true
 abbrev pub octets_of_message : {A : Type 0} → Bssmap A → Option (List ℕ)
 octets_of_message message = if can_be_written message then Some (canonical_text message) else None
 
--- the same of what fields say
+-- what fields say can be written
 abbrev pub can_be_written_of : FieldRead (Bssmap Unit) → Bool
 can_be_written_of read = unwrap_or (option_map can_be_written (result_ok read)) false
 

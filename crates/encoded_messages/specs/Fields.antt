@@ -67,7 +67,7 @@ flag_at key fields = field_at may.Flag flag_of key fields
 unfoldable pub octets_at : ℕ → List ℕ → List ℕ → Read (List ℕ)
 octets_at least key fields = field_at (may.Octets least) (octets_of least) key fields
 
--- the same, or nothing
+-- octets, or nothing
 abbrev pub optional_octets_of : ℕ → List ℕ → Option (Option (List ℕ))
 optional_octets_of least text = if bytes_eq text (codes "-") then Some None else option_map Some (octets_of least text)
 

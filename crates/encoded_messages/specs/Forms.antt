@@ -27,6 +27,6 @@ IsNumber allowed = allowed ≡ may.Number (most_of allowed)
 abbrev pub IsOctets : Allowed → Type 0
 IsOctets allowed = allowed ≡ may.Octets (least_of allowed)
 
--- the same, or nothing
+-- octets, or nothing
 abbrev pub IsOptionalOctets : Allowed → Type 0
 IsOptionalOctets allowed = allowed ≡ may.OptionalOctets (least_of allowed)

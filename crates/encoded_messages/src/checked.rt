@@ -77,7 +77,7 @@ pub fn abis_fault(text: &str) -> Option<MessageFault<'_>> {
     }
 }
 
-/// The same on A.
+/// What is wrong with a text as a message on A.
 pub fn a_fault(text: &str) -> Option<MessageFault<'_>> {
     match short_fault(A_FORMS, text) {
         Some(fault) => Some(fault),

@@ -51,7 +51,7 @@ pub enum Inbound<A: Allocator = Global> {
 }
 
 impl<A: Allocator + Copy> Inbound<A> {
-    /// The same input once more. Memory is asked for, for the octets of a message that has some.
+    /// A copy of the input. Memory is asked for, for the octets of a message that has some.
     pub fn copy(&self, alloc: A) -> Result<Inbound<A>, AllocError>
         ensures same { IfOk result (λ copy. copy ≡ self.now) }
         ensures memory { OnErr result (HoldsOctets self.now) }

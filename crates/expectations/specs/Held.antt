@@ -11,7 +11,7 @@ is_word_met words = bytes_eq words.1 (codes "*") || bytes_eq words.1 words.0
 abbrev pub are_words_met : List ℕ → List ℕ → Bool
 are_words_met answer expected = (length (words_of answer) == length (words_of expected)) && list_all is_word_met (zip (words_of answer) (words_of expected))
 
--- the same words in any order
+-- both have the words of the other, in any order
 abbrev pub are_same_words : List ℕ → List ℕ → Bool
 are_same_words answer expected = has_all (words_of answer) (words_of expected) && has_all (words_of expected) (words_of answer)
 

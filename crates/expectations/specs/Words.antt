@@ -29,6 +29,6 @@ has_all words others = list_all (has_enough words others) others
 abbrev pub name_of : List (List ℕ) → List (List ℕ)
 name_of words = take_while (λ word. not (is_field word)) words
 
--- the same words, in their order
+-- the words are alike, in their order
 abbrev pub are_same : List (List ℕ) → List (List ℕ) → Bool
 are_same words others = (length words == length others) && list_all (λ two. bytes_eq two.0 two.1) (zip words others)

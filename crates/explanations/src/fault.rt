@@ -18,7 +18,7 @@ pub enum Argument {
     Identifier,
     /// Where in a message on A an element begins, by the octets before it: 3 to 254.
     OffsetOnA,
-    /// The same on Abis, or where the type is missing: 1 to 1023.
+    /// Where in a message on Abis an element begins, or in one on A whose type is missing: 1 to 1023.
     OffsetOnAbis,
     /// What is wrong with an element of the radio path, by its number: 1 to 4.
     ElementFault,

@@ -15,6 +15,7 @@ use Rattle.bssmap_messages.specs.Texts as interface_a
 use Rattle.cell_table.specs.Site.{SiteView}
 use Rattle.rr_elements.specs.MeasResults.{Results}
 use Rattle.ho_procedure.specs.Claims.{Entry, Claim}
+use Rattle.ho_procedure.specs.Sent.{Sent}
 use Rattle.ho_procedure.specs.declared.work.Work.{Work}
 use Rattle.exchange.specs.declared.Inbound.{Inbound}
 use Rattle.exchange.specs.declared.Inbound.TheVariants as inbound
@@ -28,13 +29,13 @@ use Rattle.ho_procedure.specs.Decoding.{text_inside, IsInside, IsFaultOf, IsAbis
 use Rattle.ho_procedure.specs.Plan.{Plan, Ends, At}
 use Rattle.ho_procedure.specs.Going.{Goes, last_reports}
 use Rattle.ho_procedure.specs.Following.{Stopped}
-use Rattle.ho_procedure.specs.Handling.{IsRow, IsUndecoded, KeepsOctets}
+use Rattle.ho_procedure.specs.Handling.{IsRow, IsUndecoded, KeepsOctets, AnswersUndecoded}
 
 -- a row was stopped for this fault, or memory was refused
 abbrev pub IsStoppedFor : Link → Bad → Type 0 → Stop → Type 0
-IsStoppedFor l b MayRefuse (stop.Unreadable m d) = (m ≡ l) × (d ≡ b)
+IsStoppedFor l b MayRefuse (stop.Undecoded m d) = (m ≡ l) × (d ≡ b)
 IsStoppedFor l b MayRefuse stop.NoMemory = MayRefuse
-IsStoppedFor l b MayRefuse (stop.Foreign place) = ⊥
+IsStoppedFor l b MayRefuse (stop.Desk place) = ⊥
 
 -- what the codecs say of their texts
 pub record Laws (A : Type 0) : Type 0 where
@@ -138,10 +139,10 @@ undecoded_once (inbound.Operator line) l m b d laws u v = absurd u
 -- what comes of a row's stop where the input can't be read
 pub refused_by : {A D : Type 0} (log : D → List Entry) (says : D → List Entry → Claim → Type 0) (site : SiteView) (w w' : Work D A) (input : Inbound A) (s : Stop) (l : Link) (b : Bad) → Laws A
     → Stopped log says w (IsRow site (last_reports w.windows) input) (IsUndecoded input) (KeepsOctets input) w' s → IsUndecoded input l b → IsStoppedFor l b (KeepsOctets input × (w' ≡ w)) s
-refused_by log says site w w' input (stop.Unreadable m d) l b laws stopped u = undecoded_once input m l d b laws stopped.0 u
+refused_by log says site w w' input (stop.Undecoded m d) l b laws stopped u = undecoded_once input m l d b laws stopped.0 u
 refused_by log says site w w' input stop.NoMemory l b laws (inl row) u = absurd (row_read site (last_reports w.windows) input row.0 laws row.1 l b u)
 refused_by log says site w w' input stop.NoMemory l b laws (inr refused) u = refused
-refused_by log says site w w' input (stop.Foreign place) l b laws row u = absurd (row_read site (last_reports w.windows) input row.0 laws row.1 l b u)
+refused_by log says site w w' input (stop.Desk place) l b laws row u = absurd (row_read site (last_reports w.windows) input row.0 laws row.1 l b u)
 
 abbrev pub StopsFor : {A D : Type 0} → Inbound A → Work D A → Work D A → Link → Bad → Stop → Type 0
 StopsFor input w w' l b s = IsStoppedFor l b (KeepsOctets input × (w' ≡ w)) s
@@ -157,3 +158,11 @@ pub ended : {A D X : Type 0} (log : D → List Entry) (says : D → List Entry �
     → IsUndecoded input l b → EndsFor input w w' l b result
 ended log says site w w' input (Ok x) l b laws ok err u = row_read site (last_reports w.windows) input ok.0 laws ok.1 l b u
 ended log says site w w' input (Err s) l b laws ok err u = refused_by log says site w w' input s l b laws err u
+
+-- what is answered then, where nothing was owed before
+pub answered_so : {A D X : Type 0} (w w' : Work D A) (input : Inbound A) (l : Link) (b : Bad) (out : List Sent) (result : Result X Stop)
+    → EndsFor input w w' l b result → w.owed.items ≡ [] → out ≡ w'.owed.items → AnswersUndecoded w.view w.windows input l b w'.view w'.windows out result
+answered_so w w' input l b out (Ok x) ends none is = absurd ends
+answered_so w w' input l b out (Err (stop.Undecoded m d)) ends none is = ends
+answered_so w w' input l b out (Err stop.NoMemory) ends none is = (ends.0, ap (λ x. x.view) ends.1, ap (λ x. x.windows) ends.1, is ∙ ap (λ x. x.owed.items) ends.1 ∙ none)
+answered_so w w' input l b out (Err (stop.Desk place)) ends none is = absurd ends

@@ -22,17 +22,17 @@ StopsInRow log says w IsRow w' u = (p : Plan) × IsRow p × Goes log says w p w'
 -- Octets that can't be read, or whose memory was refused, leave all as it was; else the row was followed up to a step that
 -- takes memory, or that asks the desk, which doesn't know the view's last receipt.
 abbrev pub Stopped : {D A : Type 0} → (D → List Entry) → (D → List Entry → Claim → Type 0) → Work D A → (Plan → Type 0) → (Link → Bad → Type 0) → Type 0 → Work D A → Stop → Type 0
-Stopped log says w IsRow CantBeRead MayRefuse w' (stop.Unreadable l b) = CantBeRead l b × (w' ≡ w)
+Stopped log says w IsRow CantBeRead MayRefuse w' (stop.Undecoded l b) = CantBeRead l b × (w' ≡ w)
 Stopped log says w IsRow CantBeRead MayRefuse w' stop.NoMemory = StopsInRow log says w IsRow w' AtMemory ⊎ (MayRefuse × (w' ≡ w))
-Stopped log says w IsRow CantBeRead MayRefuse w' (stop.Foreign place) = StopsInRow log says w IsRow w' (AtDesk place)
+Stopped log says w IsRow CantBeRead MayRefuse w' (stop.Desk place) = StopsInRow log says w IsRow w' (AtDesk place)
 
 -- why a row stops by such a fault
 abbrev pub IsStopFor : DeskFault → Stop → Type 0
-IsStopFor (fault.Foreign place) s = s ≡ stop.Foreign place
+IsStopFor (fault.Foreign place) s = s ≡ stop.Desk place
 IsStopFor fault.NoMemory s = s ≡ stop.NoMemory
 
 abbrev pub IsStopOf : Unreadable → Stop → Type 0
-IsStopOf (unreadable.Undecoded l b) s = s ≡ stop.Unreadable l b
+IsStopOf (unreadable.Undecoded l b) s = s ≡ stop.Undecoded l b
 IsStopOf unreadable.NoMemory s = s ≡ stop.NoMemory
 
 -- what a message on A has for the mobile can be passed on in a DATA REQUEST, unread

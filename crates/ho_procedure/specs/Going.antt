@@ -38,7 +38,7 @@ pub record Run {D A : Type 0} (log : D → List Entry) (says : D → List Entry 
   pub said : (es : List Entry) → (claim : Claim) → says w'.view es claim → says w.view es claim
   pub stop : MayStop (says w.view (log w'.view)) p steps u
 
--- the same, closed: a caller needs no more than that it may be put together
+-- A run, closed: a caller needs no more of it than that runs may be put together.
 unfoldable pub Goes : {D A : Type 0} → (D → List Entry) → (D → List Entry → Claim → Type 0) → Work D A → Plan → Work D A → Until → Type 0
 Goes log says w p w' u = Run log says w p w' u
 

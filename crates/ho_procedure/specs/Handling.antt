@@ -23,6 +23,8 @@ use Rattle.ho_procedure.specs.Going.{last_reports, MayStop}
 use Rattle.ho_procedure.specs.Plan.{Plan, Step, Until, AtMemory, AtDesk, LeadsUntil, ChoicesAt, entries_of, messages_of, reports_after}
 use Rattle.exchange.specs.Naming.{chan_of}
 use Rattle.ho_procedure.specs.Procedure.{line_plan, expiry_plan, abis_plan, a_plan}
+use Rattle.ho_procedure.specs.declared.following.Stop.{Stop}
+use Rattle.ho_procedure.specs.declared.following.Stop.TheVariants as stop
 
 -- The row of an input: of the message that its octets are a text of, of the timer that ran out, or of the operator's line.
 abbrev pub IsRow : {A : Type 0} → SiteView → (ℕ → List Results) → Inbound A → Plan → Type 0
@@ -73,6 +75,12 @@ StopsBy log says site v windows input v' windows' (Undecoded link bad) = (v' ≡
 StopsBy log says site v windows input v' windows' (NoMemory out) = StopsForMemory log says site v windows input v' windows' (all_sent out.items)
 StopsBy log says site v windows input v' windows' (Desk place out) = StopsAtDesk log says site v windows input v' windows' (all_sent out.items) place
 
+-- what it comes to by why it stops, with the messages in the caller's list
+abbrev pub StopsWith : {A D : Type 0} → (D → List Entry) → (D → List Entry → Claim → Type 0) → SiteView → D → Kept → Inbound A → D → Kept → List Sent → Stop → Type 0
+StopsWith log says site v windows input v' windows' out (stop.Undecoded link bad) = (v' ≡ v) × (windows' ≡ windows) × (out ≡ [])
+StopsWith log says site v windows input v' windows' out stop.NoMemory = StopsForMemory log says site v windows input v' windows' out
+StopsWith log says site v windows input v' windows' out (stop.Desk place) = StopsAtDesk log says site v windows input v' windows' out place
+
 -- the fault is that the desk doesn't know the view's last receipt, which is of this place
 abbrev pub IsDeskFault : {A : Type 0} → Fault A → ℕ → Type 0
 IsDeskFault (Undecoded link bad) place = ⊥
@@ -86,3 +94,10 @@ AnswersFault v windows input link bad v' windows' (Ok out) = ⊥
 AnswersFault v windows input link bad v' windows' (Err (Undecoded l b)) = (l ≡ link) × (b ≡ bad)
 AnswersFault v windows input link bad v' windows' (Err (NoMemory out)) = KeepsOctets input × (v' ≡ v) × (windows' ≡ windows) × (all_sent out.items ≡ [])
 AnswersFault v windows input link bad v' windows' (Err (Desk place out)) = ⊥
+
+-- and by why it stops, with the messages in the caller's list
+abbrev pub AnswersUndecoded : {A D X : Type 0} → D → Kept → Inbound A → Link → Bad → D → Kept → List Sent → Result X Stop → Type 0
+AnswersUndecoded v windows input link bad v' windows' out (Ok x) = ⊥
+AnswersUndecoded v windows input link bad v' windows' out (Err (stop.Undecoded l b)) = (l ≡ link) × (b ≡ bad)
+AnswersUndecoded v windows input link bad v' windows' out (Err stop.NoMemory) = KeepsOctets input × (v' ≡ v) × (windows' ≡ windows) × (out ≡ [])
+AnswersUndecoded v windows input link bad v' windows' out (Err (stop.Desk place)) = ⊥

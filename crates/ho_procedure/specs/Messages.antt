@@ -82,7 +82,7 @@ about_call c message = OnA c (interface_a.canonical_text message)
 abbrev pub cell_id : CellIdentity → CellId
 cell_id identity = record { lac = Some identity.lac; ci = identity.ci }
 
--- the same of a cell of the site, own or outside
+-- the identity of a cell of the site, own or outside
 abbrev pub cell_id_at : SiteView → ℕ → Option CellId
 cell_id_at site cell = option_map cell_id (identity_at site cell)
 

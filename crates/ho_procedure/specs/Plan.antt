@@ -104,7 +104,7 @@ TakesMemory (Sends m next) = ⊥
 TakesMemory (Notes c reports next) = ⊥
 TakesMemory (Ranks site reports serving next) = SomeCandidate (record { reports = reports; width = site.handover.window }) site serving
 
--- The same by what a view says: of each step that asks it, it says so itself.
+-- What a view says of memory: of each step that asks it, it says so itself.
 abbrev pub MayLack : (Claim → Type 0) → Plan → Type 0
 MayLack says Ends = ⊥
 MayLack says (Readies room next) = Unit {0}

@@ -129,7 +129,7 @@ is_required s = is_guarded_by T7 s
 abbrev pub is_ordered : Stage → Bool
 is_ordered s = is_guarded_by T8 s
 
--- the same of an attempt, where one is open
+-- where an attempt is open, it is at such a stage
 abbrev pub awaits_order : Option Attempt → Bool
 awaits_order None = false
 awaits_order (Some a) = is_required a.stage

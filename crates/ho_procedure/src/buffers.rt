@@ -58,6 +58,17 @@ impl<A: Allocator + Copy> Buffers<A> {
             None => unreachable!(),
         }
     }
+
+    /// Keeps a buffer, emptied, if it has room for any message, and the list of buffers has room for it.
+    pub(crate) fn put_back(&mut self, buffer: Vec<u8, A>)
+        ensures kept { self.old ≤ self.new }
+    {
+        let mut buffer = buffer;
+        buffer.clear();
+        if LONGEST <= buffer.capacity() && self.spare.len() < self.spare.capacity() {
+            self.spare.push_reserved(buffer);
+        }
+    }
 }
 
 /// Adds buffers until there are so many.

@@ -3,11 +3,12 @@ ghost use Rattle.std.specs.Prelude.{◌≡◌, ℕ, List, [], IfOk, IfErr, OnOk,
 ghost use Rattle.radio_desk.specs.Desk.{IsAnew};
 ghost use Rattle.ho_procedure.specs.Claims.{Entry, Claim, UnknownReceipt};
 ghost use Rattle.ho_procedure.specs.Sent.{all_sent};
-ghost use Rattle.ho_procedure.specs.Handling.{StopsBy, IsRow, IsUndecoded, AnswersFault, Handles, IsDeskFault};
+ghost use Rattle.ho_procedure.specs.Handling.{StopsBy, StopsWith, IsRow, IsUndecoded, AnswersFault, AnswersUndecoded, Handles, IsDeskFault};
 ghost use Rattle.ho_procedure.specs.Plan.{Plan, Ends, At};
 ghost use Rattle.ho_procedure.specs.Going.{last_reports};
 
-use crate::following::{Stop, follow};
+use crate::following::follow;
+pub use crate::following::Stop;
 use crate::outbox::Outbox;
 use crate::view::{DeskView, OwnDesk};
 use crate::windows::Windows;
@@ -16,6 +17,7 @@ use cell_table::Site;
 use exchange::{Bad, Fault, Inbound, Link, Outbound};
 use std::alloc::{AllocError, Allocator, Global};
 use std::marker::Model;
+use std::mem;
 use std::sync::Arc;
 
 /// What a controller does, over any view of a desk. Contracts see its view, the last reports of each call, and its site.
@@ -102,7 +104,6 @@ impl<D: DeskView + Drop, A: Allocator + Copy> Controller<D, A> {
     ///
     /// After `NoMemory` and `Desk` what was asked so far stands. Both have the messages up to there, which the caller
     /// sends.
-    #[tactic(auto, using(crate::proofs::Handled::handled, crate::proofs::Handled::kept, crate::proofs::Handled::width_kept, crate::proofs::Handled::refused, crate::proofs::Handled::stops_for_memory, crate::proofs::Handled::stops_at_desk, crate::proofs::Handled::stopped_kept, crate::proofs::Handled::stopped_width))]
     pub fn handle(&mut self, input: Inbound<A>) -> Result<Vec<Outbound<A>, A>, Fault<A>>
         ensures ok { IfOk result (λ out. (p : Plan) ×
             IsRow {A = A} self.old.2 (last_reports self.old.1) input p ×
@@ -120,17 +121,51 @@ impl<D: DeskView + Drop, A: Allocator + Copy> Controller<D, A> {
         ensures said { (es : List Entry) → (claim : Claim) →
             D.says self.new.0 es claim → D.says self.old.0 es claim }
     {
+        let mut owed = Vec::new(self.work.alloc);
+        match self.handle_into(input, &mut owed) {
+            Ok(()) => Ok(owed),
+            Err(Stop::Undecoded(link, bad)) => Err(Fault::Undecoded(link, bad)),
+            Err(Stop::NoMemory) => Err(Fault::NoMemory(owed)),
+            Err(Stop::Desk(place)) => Err(Fault::Desk(place, owed)),
+        }
+    }
+
+    /// Handles an input as [`Controller::handle`] does, and puts the messages, in their order, into a list that the caller keeps
+    /// from one input to the next. What was in it was sent, and is dropped: its memory serves for what comes. So inputs that are
+    /// alike ask for no memory once it is there.
+    ///
+    /// After a fault the list has the messages that are owed up to there, and nothing else; after `Undecoded` none.
+    #[tactic(auto, using(crate::proofs::Handled::handled, crate::proofs::Handled::kept, crate::proofs::Handled::width_kept, crate::proofs::Handled::refused, crate::proofs::Handled::stops_for_memory, crate::proofs::Handled::stops_at_desk, crate::proofs::Handled::stopped_kept, crate::proofs::Handled::stopped_width))]
+    pub fn handle_into(
+        &mut self,
+        input: Inbound<A>,
+        out: &mut Vec<Outbound<A>, A>,
+    ) -> Result<(), Stop>
+        ensures ok { OnOk result ((p : Plan) ×
+            IsRow {A = A} self.old.2 (last_reports self.old.1) input p ×
+            Handles D.log D.says self.old.0 self.old.1 p self.new.0 self.new.1
+            (all_sent out.new.items) (At Ends)) }
+        ensures undecoded { (link : Link) → (bad : Bad) →
+            result ≡ Err (Stop.Undecoded link bad) → IsUndecoded {A = A} input link bad }
+        ensures exact { (link : Link) → (bad : Bad) → IsUndecoded {A = A} input link bad →
+            AnswersUndecoded {A = A} self.old.0 self.old.1 input link bad self.new.0 self.new.1
+            (all_sent out.new.items) result }
+        ensures stops { IfErr result (λ stop. StopsWith {A = A} D.log D.says self.old.2
+            self.old.0 self.old.1 input self.new.0 self.new.1 (all_sent out.new.items) stop) }
+        ensures site { self.new.2 ≡ self.old.2 }
+        ensures foreign { IfErr result (λ stop. (place : ℕ) → stop ≡ Stop.Desk place →
+            D.says self.old.0 (D.log self.new.0) (UnknownReceipt place)) }
+        ensures said { (es : List Entry) → (claim : Claim) →
+            D.says self.new.0 es claim → D.says self.old.0 es claim }
+    {
         rsl_messages::reading_is_unique::<A>();
         bssmap_messages::reading_is_unique::<A>();
         rr_messages::laws::one_fault();
+        let sent = mem::replace(out, Vec::new(self.work.alloc));
+        self.work.owed.take_back(sent);
         let done = follow(&mut self.work, &self.site, input);
-        let owed = self.work.owed.take();
-        match done {
-            Ok(()) => Ok(owed),
-            Err(Stop::Unreadable(link, bad)) => Err(Fault::Undecoded(link, bad)),
-            Err(Stop::NoMemory) => Err(Fault::NoMemory(owed)),
-            Err(Stop::Foreign(place)) => Err(Fault::Desk(place, owed)),
-        }
+        *out = self.work.owed.take();
+        done
     }
 }
 

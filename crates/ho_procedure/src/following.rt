@@ -31,16 +31,21 @@ use radio_desk::desk::DeskFault;
 use rr_messages::Rr;
 use rsl_messages::Rsl;
 use std::alloc::Allocator;
+use thiserror::Error;
 
-/// Why a row wasn't followed to its end.
-#[derive(Clone, Copy)]
-pub(crate) enum Stop {
-    /// The octets, or the text inside, can't be read.
-    Unreadable(Link, Bad),
-    /// Memory was refused.
+/// Why an input wasn't handled to its end.
+#[derive(Clone, Copy, Debug, PartialEq, Eq, Error)]
+pub enum Stop {
+    /// The octets, or the text inside, can't be read. Nothing was asked of the view, and nothing is sent.
+    #[error("the {0} can't be read: {1}")]
+    Undecoded(Link, Bad),
+    /// Memory was refused. What was asked so far stands, and the messages up to there are sent.
+    #[error("memory was refused")]
     NoMemory,
-    /// The desk doesn't know the view's last receipt, of this place.
-    Foreign(usize),
+    /// The view's last receipt, of this place (counted from 0), isn't from its desk's history. What was asked so far stands, and
+    /// the messages up to there are sent.
+    #[error("the receipt of place {0} is of another desk")]
+    Desk(usize),
 }
 
 fn stop_of(fault: DeskFault) -> Stop
@@ -48,7 +53,7 @@ fn stop_of(fault: DeskFault) -> Stop
 {
     match fault {
         DeskFault::NoMemory => Stop::NoMemory,
-        DeskFault::Foreign(place) => Stop::Foreign(place),
+        DeskFault::Foreign(place) => Stop::Desk(place),
     }
 }
 
@@ -56,7 +61,7 @@ fn unreadable_stop(unreadable: Unreadable) -> Stop
     ensures { IsStopOf unreadable result }
 {
     match unreadable {
-        Unreadable::Undecoded(link, bad) => Stop::Unreadable(link, bad),
+        Unreadable::Undecoded(link, bad) => Stop::Undecoded(link, bad),
         Unreadable::NoMemory => Stop::NoMemory,
     }
 }

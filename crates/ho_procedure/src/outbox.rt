@@ -76,6 +76,28 @@ impl<A: Allocator> Model for Outbox<A> {
         (0 < o.buffers → longest_rr ≤ vec_capacity o.inner) };
 }
 
+/// The octets of a message, with the room that they have.
+fn buffer_of<A: Allocator>(message: Outbound<A>) -> Vec<u8, A> {
+    match message {
+        Outbound::Abis {
+            cell: _,
+            trx: _,
+            bytes,
+        } => bytes.into_vec(),
+        Outbound::A { call: _, bytes } => bytes.into_vec(),
+    }
+}
+
+/// Puts back the buffers of messages that were sent.
+fn put_back_all<A: Allocator + Copy>(
+    buffers: &mut Buffers<A>,
+    sent: &mut Vec<Outbound<A>, A>,
+) {
+    for message in sent.drain(..) {
+        buffers.put_back(buffer_of(message));
+    }
+}
+
 impl<A: Allocator + Copy> Outbox<A> {
     /// No message is owed, and there is no room for one.
     pub(crate) fn new(alloc: A) -> Outbox<A>
@@ -123,6 +145,18 @@ impl<A: Allocator + Copy> Outbox<A> {
         ensures none { self.new.items ≡ [] }
     {
         mem::replace(&mut self.messages, Vec::new(self.alloc))
+    }
+
+    /// Takes back messages that were sent: their buffers, and the list itself, serve for the next ones. No memory is asked for.
+    pub(crate) fn take_back(&mut self, sent: Vec<Outbound<A>, A>)
+        ensures none { self.new.items ≡ [] }
+    {
+        let mut sent = sent;
+        if LONGEST_RR <= self.inner.capacity() {
+            put_back_all(&mut self.buffers, &mut sent);
+        }
+        sent.clear();
+        self.messages = sent;
     }
 
     /// CHANNEL ACTIVATION for an immediate assignment.
@@ -191,7 +225,7 @@ impl<A: Allocator + Copy> Outbox<A> {
         put_abis(&mut self.messages, chan, text);
     }
 
-    /// The same with CHANNEL RELEASE.
+    /// DATA REQUEST with CHANNEL RELEASE of a cause.
     pub(crate) fn channel_release(&mut self, chan: ChanId, cause: u8)
         requires room { 1 ≤ self.old.room }
         requires timeslot { chan.tn < 8 }

@@ -299,7 +299,7 @@ fn power_fails_where_old_files_go(rt: HostRuntime) -> Result<(), Fail> {
     each_fails(&rt, rt.alloc(), Failure::Power, Some(2), true)
 }
 
-/// The same where the folder is reached by its path alone.
+/// Each call to the system fails, where the folder is reached by its path alone.
 #[test]
 fn a_call_fails_by_the_path_and_nothing_is_lost(rt: HostRuntime) -> Result<(), Fail> {
     each_fails(&rt, rt.alloc(), Failure::Refused, Some(2), false)

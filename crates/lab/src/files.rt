@@ -233,7 +233,7 @@ fn run_viewed<R: Files + AllocGlobal, W: Write, E: Write>(
     Ok(Some(ended_viewed(ended, written)?))
 }
 
-/// The same, with all settled attempts taken out of what was asked, at the end.
+/// Runs what was read, with all settled attempts taken out of what was asked, at the end.
 fn run_audited<R: Files + AllocGlobal, W: Write, E: Write>(
     rt: &R,
     texts: &RunTexts,

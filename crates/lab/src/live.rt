@@ -147,7 +147,7 @@ fn begun_with<'a, 'p, W: Write, F: Write + OpenFile + Drop>(
     begun.map(|()| viewer)
 }
 
-/// The same with a journal that was opened.
+/// Runs a live controller over the book of a journal that was opened.
 fn live_journaled<R: Files + AllocGlobal, I: BufRead + LineReader, W: Write, E: Write>(
     rt: &R,
     opened: Opened<'_, R>,

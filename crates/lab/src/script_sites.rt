@@ -73,7 +73,7 @@ fn beside(alloc: Global, script: &str, path: &str) -> Result<String, AllocError>
     }
 }
 
-/// The same of a path that may be named.
+/// A path that may be named, as it is named beside a script.
 fn named_beside(
     alloc: Global,
     script: &str,
@@ -169,7 +169,7 @@ fn say_other_site<R: Files + AllocGlobal, E: Write>(
     Ok(())
 }
 
-/// The same of a peer's site; there may be none.
+/// Tells which other site a script names for its peer; there may be none.
 fn say_other_peer<R: Files + AllocGlobal, E: Write>(
     rt: &R,
     peer: Option<&str>,

@@ -36,7 +36,7 @@ first_took all s' t side turn = record { before = all.first; after = s'; there =
 pub peer_took : {A : Type 0} (first s s' : Position) (t : Turn A) → t.side ≡ Peer → IsTurn s t s' → IsTurnOf (first ∷ option_list (Some s)) t (first ∷ option_list (Some s'))
 peer_took first s s' t side turn = record { before = s; after = s'; there = rw side refl; turn = turn; others = rw side refl }
 
--- the same of what may have failed
+-- the first controller took a turn, unless the call failed
 pub first_taken : {A E : Type 0} (all : Controllers A) (s' : Position) (r : Result (Turn A) E) → IfOk r (λ t. t.side ≡ First) → IfOk r (λ t. IsTurn all.first t s') → IfOk r (λ t. IsTurnOf (positions_of all) t (s' ∷ option_list all.peer))
 first_taken all s' (Ok t) side turn = first_took all s' t side turn
 first_taken all s' (Err e) side turn = tt
@@ -90,7 +90,7 @@ where_ok P (Err f) p = tt
 pub went_then : {A : Type 0} (inputs : List (Side × Inbound A)) (c c' c'' : Course A) → Went inputs c c' → Went [] c' c'' → Went inputs c c''
 went_then inputs c c' c'' h k = subst (λ (all : List (Side × Inbound _)). Went all c c'') (append-nil inputs) (went_on inputs [] c c' c'' h k)
 
--- the same where all went well
+-- a course went on where a call went well
 pub went_past : {A X E : Type 0} (inputs : List (Side × Inbound A)) (c c' c'' : Course A) (r : Result X E) → Went inputs c c' → OnOk r (Went [] c' c'') → OnOk r (Went inputs c c'')
 went_past inputs c c' c'' r h = on_ok_weaker r (went_then inputs c c' c'' h)
 
@@ -182,7 +182,7 @@ follows_then item c c' c'' h k = record {
   peer = k.peer ∙ h.peer;
 }
 
--- the same where all went well
+-- an item was followed where a call went well
 pub follows_past : {A X E : Type 0} (item : Item A) (c c' c'' : Course A) (r : Result X E) → Follows (item ∷ []) c c' → OnOk r (Went [] c' c'') → OnOk r (Follows (item ∷ []) c c'')
 follows_past item c c' c'' r h = on_ok_weaker r (follows_then item c c' c'' h)
 

@@ -60,7 +60,7 @@ put key value f =
     else if bytes_eq key (codes "times") then option_map (λ n. record f { times = Some n }) (once f.times (count_of value))
     else None
 
--- the same of a word: `dtx`, or a key and its value
+-- fields, with what a word says: `dtx`, or a key and its value
 abbrev pub with_word : List ℕ → Fields → Option Fields
 with_word word f =
     if bytes_eq word (codes "dtx") then option_map (λ dtx. record f { dtx = Some dtx }) (once f.dtx (Some true))

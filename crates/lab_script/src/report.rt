@@ -99,7 +99,7 @@ impl Fields {
         }
     }
 
-    /// The same, and what a field with this key says; nothing where it is none, can't be read, or stands twice.
+    /// These fields, and what a field with this key says; nothing where it is none, can't be read, or stands twice.
     fn put(self, key: &str, value: &str) -> Option<Fields>
         ensures { result ≡ said.put key.now value.now self }
     {
@@ -140,7 +140,7 @@ impl Fields {
         }
     }
 
-    /// The same, and what a word says.
+    /// These fields, and what a word says.
     pub(crate) fn with(self, word: &str) -> Option<Fields>
         ensures { result ≡ said.with_word word.now self }
     {

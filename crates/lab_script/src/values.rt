@@ -47,7 +47,7 @@ impl Values {
         }
     }
 
-    /// The same, and what a word says in this slot; nothing where it doesn't fit there. What takes the rest of a line is kept
+    /// These values, and what a word says in this slot; nothing where it doesn't fit there. What takes the rest of a line is kept
     /// elsewhere.
     fn put(self, slot: Slot, word: &str) -> Option<Values>
         ensures { result ≡ said.put slot word.now self }
@@ -142,7 +142,7 @@ fn filled<'a>(
     }
 }
 
-/// The same where no words are left.
+/// The values where no words are left: those that there are, if no slot is left either.
 fn none_left<'a>(slots: &[Slot], values: Values, kept: &'a str) -> Option<(Values, &'a str)>
     ensures { option_map (λ r. (r.0, r.1.now)) result ≡ said.filled slots.now None values kept.now }
 {

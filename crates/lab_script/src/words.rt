@@ -113,7 +113,7 @@ fn around_slash(text: &str) -> Option<(&str, &str)>
     text.split_once('/')
 }
 
-/// The same at its first `:`.
+/// A text up to its first `:`, and what stands behind that; `None` where it has none.
 pub(crate) fn around_colon(text: &str) -> Option<(&str, &str)>
     ensures { option_map (λ cut. (cut.0.now, cut.1.now)) result ≡ cut_at 58 text.now }
 {
@@ -293,7 +293,7 @@ pub(crate) fn is_on_abis(text: &str) -> bool
     is_octets(text) || says_abis(text)
 }
 
-/// The same on A.
+/// Whether a text is the message of a line on A: its octets in hexadecimal, or in words.
 pub(crate) fn is_on_a(text: &str) -> bool
     ensures { result ≡ is_some (said.a_octets text.now) }
 {
@@ -354,7 +354,7 @@ pub(crate) fn abis_octets<A: Allocator + Copy>(
     }
 }
 
-/// The same of a message on A.
+/// The octets of a message on A, which a text gives in hexadecimal or in words.
 #[tactic(auto, using(crate::proofs::WordLemmas::one_said, crate::proofs::WordLemmas::other_said))]
 pub(crate) fn a_octets<A: Allocator + Copy>(
     alloc: A,

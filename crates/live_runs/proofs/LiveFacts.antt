@@ -249,7 +249,7 @@ all_played {A = A} sims b (Some octets) s s' opening peer sim h =
           (subst (λ all. PlaysWithRests (items_from {A = A} sims (has_sim s) octets) all h.turns last) (alone s peer) h.plays);
     }
 
--- the same where all went well
+-- all was played where a call went well
 pub where_played : {A X E : Type 0} (sims : Bool) (b : State) (old : Option (List ℕ)) (s s' : Live A) (r : Result X E) → BeginsWith b s.course.controllers.first → has_peer s.course ≡ false → has_sim s ≡ false
     → OnOk r (TakesAll sims old s s') → OnOk r (IfSome old (λ octets. Played A b (items_from sims false octets)))
 where_played sims b old s s' (Ok x) opening peer sim h = all_played sims b old s s' opening peer sim h

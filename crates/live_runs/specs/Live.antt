@@ -28,7 +28,7 @@ IsShort entries course = (length (history_of course) < entries) ⊎ (history_of 
 abbrev pub StaysOrRests : Position → Position → Type 0
 StaysOrRests s s' = (s' ≡ s) ⊎ IsAnewAt s s'
 
--- the same of the first of some controllers; every other is as it was
+-- the first of some controllers is as it was, or its desk began anew; every other is as it was
 abbrev pub FirstRests : List Position → List Position → Type 0
 FirstRests [] all' = all' ≡ []
 FirstRests (s ∷ others) all' = (s' : Position) × (all' ≡ s' ∷ others) × StaysOrRests s s'

@@ -112,7 +112,7 @@ fn refuse_simulators<A: Allocator + Copy, L: LiveListener<A>, E: Write>(
 /// The line that asks what came so far, counted. It is none of a script, and changes nothing.
 const SUMMARY_LINE: &[u8] = b"summary";
 
-/// The same with the carriage return that may end a line.
+/// The line that asks what came so far, with the carriage return that may end a line.
 const SUMMARY_LINE_WITH_RETURN: &[u8] = b"summary\r";
 
 /// Whether a line asks what came so far.

@@ -140,7 +140,7 @@ impl<A: Allocator + Copy> Centre<A> {
         }
     }
 
-    /// The same where another controller has the cell.
+    /// Asks the controller that has the cell.
     fn ask(&mut self, asker: Connection, route: Route) -> Outs<A>
         ensures comes { IfOk result (λ outs. ComesOfRequired self.old asker (Some route) self.new
             outs.items) }
@@ -150,7 +150,7 @@ impl<A: Allocator + Copy> Centre<A> {
         self.ask_at(asker, route, number)
     }
 
-    /// The same where the new call is to have this number, if there is one.
+    /// Asks it for a call of this number, if there is one.
     fn ask_at(&mut self, asker: Connection, route: Route, number: Option<u16>) -> Outs<A>
         ensures gives { IfOk result (λ outs. Gives (at_number self.old asker route number) self.new
             outs.items) }

@@ -42,6 +42,14 @@ impl<A: Allocator> Octets<A> {
     {
         Octets { items: octets }
     }
+
+    /// The list of its octets, which are moved out, with the room that it has.
+    pub fn into_vec(self) -> Vec<u8, A>
+        ensures octets { result.items ≡ self }
+    {
+        let Octets { items } = self;
+        items
+    }
 }
 
 impl<A: Allocator> Octets<A> {

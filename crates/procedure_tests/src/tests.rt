@@ -2,6 +2,7 @@
 //! comes of inputs stands in scripts in `tests/`, at the top of the repository.
 mod controllers;
 mod foreign;
+mod kept;
 mod memory;
 mod requests;
 mod shared;

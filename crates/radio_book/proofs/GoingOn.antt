@@ -51,7 +51,7 @@ abbrev Keeps : State → ℕ → Option ChanId → AttemptKind → Option ChanId
 Keeps b c s k o n (Refuses refusal) = Unit {0}
 Keeps b c s k o n (Accepts change reply) = Goes b c s k o n (apply change b)
 
--- the same, where the attempt gets its number, and had none
+-- where the event is accepted, the attempt that had no number gets one, and goes on
 abbrev Reserves : State → ℕ → Option ChanId → AttemptKind → Option ChanId → Option ℕ → ℕ → Outcome → Type 0
 Reserves b c s k o n m (Refuses refusal) = Unit {0}
 Reserves b c s k o n m (Accepts change reply) = (n ≡ None) × (reply ≡ Done) × Goes b c s k o (Some m) (apply change b)

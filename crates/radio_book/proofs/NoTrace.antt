@@ -182,7 +182,7 @@ none_first : (ss : List StepAt) → option_map (λ (s : StepAt). s.place) (slice
 none_first [] none = refl
 none_first (s ∷ ss) none = cc
 
--- the same of what is answered of a list with an undone attempt, and without it
+-- books and replies of a list with an undone attempt, and of the list without it, agree as they are answered
 pub same_without :
     (b : State) (es : List Event) (u : Undone) (whole without : State) (whole_replies without_replies : List Reply) (places : List ℕ) →
     IsSound b → IsUndoneAttempt b es u →

@@ -119,7 +119,7 @@ left_within (Some (Pending c)) = omega arith
 left_within (Some (On c)) = omega arith
 left_within (Some Off) = omega arith
 
--- the same where there may be no channel
+-- a channel that is left counts no more than before, where there is one
 left_counts : (b : State) (o : Option ChanId) → counts_after one (option_map (λ x. (x, left_state (state_of b x))) o) ≤ counts_before one b.channels (option_map (λ x. (x, left_state (state_of b x))) o)
 left_counts b None = omega arith
 left_counts b (Some x) = left_within (map.get b.channels x)

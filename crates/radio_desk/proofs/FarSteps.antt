@@ -215,7 +215,7 @@ module _ (c : ℕ) (t : Option ChanId) (s : StepAt) where
   phase_again Settled = refl
   phase_again Completed = refl
 
--- the same step again leaves the attempt as it is
+-- a step that comes again leaves the attempt as it is
 pub after_again : (p : Followed) (s : StepAt) → after (after p s) s ≡ after p s
 after_again p s = ap (λ phase. record p { phase = phase }) (phase_again p.call p.target s p.phase)
 

@@ -42,7 +42,7 @@ pub record IsInOrder (d : DeskState) : Type 0 where
 abbrev pub LacksRoom : DeskState → Type 0
 LacksRoom d = d.room < calls_and_channels d.book + 3
 
--- the same of a history that can hold so many entries, and has so many
+-- A history that can hold so many entries, and has so many, lacks room for those.
 abbrev pub LacksCapacity : ℕ → ℕ → State → Type 0
 LacksCapacity capacity entries b = capacity < entries + (calls_and_channels b + 3)
 

@@ -20,7 +20,7 @@ pub record IsFreeIn (b : State) (cell : ℕ) (x : ChanId) : Type 0 where
   pub is_traffic : is_traffic b.site x ≡ true
   pub is_free : in_way b x ≡ None
 
--- the same at a rate (TS 45.002 clause 3.2)
+-- a free channel of a cell at a rate (TS 45.002 clause 3.2)
 pub record IsFreeAt (b : State) (cell : ℕ) (asked : Rate) (x : ChanId) : Type 0 where
   pub free : IsFreeIn b cell x
   pub rate : rate_of x.sub ≡ asked

@@ -135,7 +135,7 @@ pub trait Tables: Drop {
 
 /// Tables that can be copied: those whose allocator can.
 pub trait CopyTables: Tables {
-    /// The same tables again. Memory is asked for.
+    /// A copy of the tables. Memory is asked for.
     fn copy(&self) -> Result<Self, AllocError>
         ensures copy { IfOk result (λ copy. Self.state copy ≡ Self.state self.now) };
 }

@@ -184,7 +184,7 @@ impl<A: Allocator + Copy> Calls<A> {
         Ok(())
     }
 
-    /// The same of a call that is there, so no memory is asked for.
+    /// Keeps an entry in the place of a call's that is there, so that no memory is asked for.
     pub fn replace(&mut self, call: u16, entry: CallEntry)
         requires { IsSome (map.get self.old.records call) }
         ensures { self.new ≡ with_kept self.old call entry }

@@ -54,7 +54,7 @@ pub fn gather<A: Allocator + Copy>(
     check(alloc, desk, all.as_slice())
 }
 
-/// The same of the receipts of one list, each of which is the entry at its place.
+/// Looks whether receipts, each of which is the entry at its place, are all entries of the desk, and each stands once.
 pub fn check<A: Allocator + Copy>(
     alloc: A,
     desk: &Desk<A>,

@@ -126,7 +126,7 @@ abbrev pub standing_from : Standing → List Told → Standing
 standing_from standing [] = standing
 standing_from standing (t ∷ ts) = standing_from (standing_behind standing t) ts
 
--- the same of all lines of a trace
+-- what all lines of a trace report
 abbrev pub reports_of : List Told → List Report
 reports_of lines = reports_from first_standing lines
 

@@ -18,7 +18,7 @@ pub enum Fault {
     NoPeer,
     /// No line begins with the word, where there is a second controller.
     Keyword,
-    /// The same where there is none.
+    /// No line begins with the word, where there is no second controller.
     LoneKeyword,
     /// No line of the second controller begins with it, behind `2: `.
     PeerKeyword,
@@ -38,7 +38,7 @@ pub enum Fault {
     NoNeighbours,
     /// The text has the name of a message on Abis, and says none: its fields are wrong.
     OnAbis,
-    /// The same on A.
+    /// The text has the name of a message on A, and says none: its fields are wrong.
     OnA,
     /// Nothing is wrong with the line itself: what it asks is of what is simulated, and no line before attaches that.
     NoSim(Form),
@@ -88,7 +88,7 @@ fn has_abis_name(text: &str) -> bool
     is_named(ABIS_FORMS, name)
 }
 
-/// The same on A.
+/// Whether a text begins with the name of a message on A.
 fn has_a_name(text: &str) -> bool
     ensures { result ≡ said.has_a_name text.now }
 {

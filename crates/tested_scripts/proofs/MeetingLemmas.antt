@@ -82,7 +82,7 @@ least_all places i least lower within all e k d h =
           omega (arith, e, is)
     ]
 
--- the same of the greater
+-- the greater of one more place and the greatest so far is the greatest
 pub greatest_one : (places : List ℕ) (i greatest greater : ℕ) → i < length places → Contains places greatest → greater ≡ max greatest (get_or places i 0) → Contains places greater
 greatest_one places i greatest greater within one e =
     let next = get_or places i 0 in
@@ -189,7 +189,7 @@ range_all xs first start place count e low high all p = (
   λ (above, below). (all p).1 (omega (arith, e, above), omega (arith, low, below)),
 )
 
--- the same of what is found, unless memory is refused
+-- what is found behind the places is next, unless memory is refused
 pub if_text : {T E : Type 0} (items : T → List ℕ) (r : Result T E) (came : List Said) (text : List ℕ) (places : List ℕ) → is_any text ≡ false
     → IfOk r (λ found. items found ≡ filter_map (behind came text) places) → IfOk r (λ found. AreNext came (Some text) places (items found))
 if_text items (Ok found) came text places is e = text_next came text places (items found) is e
@@ -289,7 +289,7 @@ said_paired [] words = refl
 said_paired (line ∷ lines) [] = refl
 said_paired (line ∷ lines) (word ∷ words) = rw (said_paired lines words) refl
 
--- the same of what is made, unless memory is refused
+-- what is made of lines and their words is those pairs, unless memory is refused
 pub if_paired : {T E : Type 0} (items : T → List CameLine) (r : Result T E) (lines words : List (Bor (List ℕ)))
     → IfOk r (λ came. items came ≡ map came_line (zip lines words)) → IfOk r (λ came. said_of (items came) ≡ zip (texts_of lines) (texts_of words))
 if_paired items (Ok came) lines words e = ap (λ (xs : List CameLine). said_of xs) e ∙ said_paired lines words

@@ -98,7 +98,7 @@ part_met (Ok x) part came one two d holds m0 m1 m2 m3 is_one is_two met first se
 )
 part_met (Err x) part came one two d holds m0 m1 m2 m3 is_one is_two met first second third = tt
 
--- the same of the last part, with the trace's end or without it
+-- the last part is met, with the trace's end or without it
 pub last_met : {T E : Type 0} (r : Result T E) (part : List (List ℕ)) (came ended : Came) (one last two : List Said) (d : Option Difference) (holds m0 m1 m2 m3 : Bool)
     → one ≡ came_in came → last ≡ came_in ended → two ≡ came_in ended → ((d ≡ None) ↔ (AreMet part one ⊎ AreMet part last))
     → ((m1 ≡ true) ↔ ((m0 ≡ true) × (d ≡ None))) → ((m2 ≡ true) ↔ ((m1 ≡ true) × AreKept part two)) → OnOk r ((m3 ≡ true) ↔ ((m2 ≡ true) × (holds ≡ true)))

@@ -30,7 +30,7 @@ Takes came (Some text) from to =
     ((is_any text ≡ true) × (from ≤ to) × (to ≤ length came))
     ⊎ ((is_any text ≡ false) × (is_at came from text ≡ true) × (to ≡ from + 1))
 
--- the same of some lines of a script, one after another
+-- some lines of a script reach a place, one after another
 abbrev pub Reaches : List Said → List (List ℕ) → ℕ → ℕ → Type 0
 Reaches came [] from to = to ≡ from
 Reaches came (line ∷ lines) from to = (between : ℕ) × Takes came (expected_in line) from between × Reaches came lines between to

@@ -44,7 +44,7 @@ AreKept part came = list_any (is_broken came) part ≡ false
 abbrev pub IsPartMet : List (List ℕ) → Came → Bool → Type 0
 IsPartMet part came held = AreMet part (came_in came) × AreKept part (came_in came) × (held ≡ true)
 
--- the same of the last part: the trace's end may be expected or left out, and is among what came
+-- the last part is met: the trace's end may be expected or left out, and is among what came
 abbrev pub IsLastMet : List (List ℕ) → Came → Came → Bool → Type 0
 IsLastMet part came ended held = (AreMet part (came_in came) ⊎ AreMet part (came_in ended)) × AreKept part (came_in ended) × (held ≡ true)
 

@@ -12,7 +12,7 @@ use std::alloc::{AllocError, Allocator};
 pub struct CameLine<'a> {
     /// The line of the trace.
     pub text: &'a str,
-    /// The same in words, where it is a message; else nothing.
+    /// The line in words, where it is a message; else nothing.
     pub words: &'a str,
 }
 
@@ -277,7 +277,7 @@ pub fn find_difference<A: Allocator + Copy>(
     }
 }
 
-/// The same of the last line of a script that gives something: `ended` is what came of it, with the lines behind that
+/// The first difference of the last line of a script that gives something: `ended` is what came of it, with the lines behind that
 /// with which the trace ends, which may be expected, or may not.
 pub fn find_last_difference<A: Allocator + Copy>(
     alloc: A,

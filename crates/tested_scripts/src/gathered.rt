@@ -123,7 +123,7 @@ impl<A: Allocator + Copy> Gathered<A> {
         }
     }
 
-    /// The same without the lines of the trace behind so many octets of it: those of its end.
+    /// What came, without the lines of the trace behind so many octets of it: those of its end.
     pub(crate) fn came_before(&self, end: usize) -> Came<'_> {
         Came {
             trace: text_of(self.trace.get(..end).unwrap_or(&[])),

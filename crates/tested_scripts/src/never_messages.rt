@@ -127,7 +127,7 @@ fn is_rowless<A: Allocator + Copy>(
     }
 }
 
-/// The same with this discriminator, of any type.
+/// Whether a part is a name of a message without a row with this discriminator, of any type.
 fn is_any_rowless<A: Allocator + Copy>(
     alloc: A,
     part: &str,
@@ -254,7 +254,7 @@ fn behind_form<'a>(
     }
 }
 
-/// The same behind those of a message on Abis that controllers don't read, where there is no form.
+/// The fault behind a message on Abis that controllers don't read, where there is no form.
 fn behind_fault<'a>(
     way: Way,
     form: Option<MessageForm<'static>>,

@@ -210,7 +210,7 @@ impl<W: Write, A: Allocator + Copy> Tester<'_, W, A> {
         self.look_at_held(part, came.held, holds)
     }
 
-    /// The same of the last part, with the trace's end or without it.
+    /// Looks at what came of the last part, with the trace's end or without it.
     fn look_at_last(
         &mut self,
         part: &[&str],

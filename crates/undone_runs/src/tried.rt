@@ -50,7 +50,7 @@ fn run_of<A: Allocator + Copy>(
     }
 }
 
-/// The same of the script in which an operator takes an attempt back.
+/// The run of the script in which an operator takes an attempt back.
 fn undone_run_of<A: Allocator + Copy>(
     alloc: A,
     scratch: Global,
@@ -101,7 +101,7 @@ fn judge<A: Allocator + Copy>(
     })
 }
 
-/// The same by a run.
+/// The verdict on what a run asked its book.
 fn judge_run<A: Allocator + Copy>(
     alloc: A,
     run: Option<Run<A>>,

@@ -4,6 +4,7 @@ mod filled;
 mod gathering;
 mod heap;
 mod largest;
+mod many;
 mod memory;
 mod moved;
 mod offices;

@@ -93,7 +93,7 @@ fn is_rewound<'a>(
     }
 }
 
-// The same of the marks of an attempt.
+// The marks of an attempt are found, or memory was refused.
 fn is_marked<'a>(
     rt: &impl Abort,
     book: &Book<&'a RefusingHeap>,

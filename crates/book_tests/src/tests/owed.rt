@@ -34,7 +34,7 @@ const OWED: &[(Event, Reply)] = &[
     (RELEASED, Done),
 ];
 
-// The same kinds of event, where the book refuses them.
+// Events that would be owed, where the book refuses them.
 const NOT_OWED: &[Event] = &[Undo(2, Asked), Released(HOME), RELEASED];
 
 // Asks the events at a desk.

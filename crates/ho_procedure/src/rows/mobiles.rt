@@ -244,7 +244,7 @@ fn tell_returned<D: DeskView + Drop, A: Allocator + Copy>(
     work.send_handover_failure(call, REVERSION_TO_OLD_CHANNEL, Some(cause));
 }
 
-/// The same of a call whose mobile was sent to another controller's cell.
+/// A mobile that was sent to another controller's cell is back on its old channel.
 #[tactic(auto, using(crate::proofs::Asking::row_steps), unfolding(crate::specs::Procedure::outgoing_return))]
 fn return_outgoing<D: DeskView + Drop, A: Allocator + Copy>(
     work: &mut Work<D, A>,

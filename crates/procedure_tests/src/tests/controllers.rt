@@ -70,7 +70,7 @@ fn is_handled<D: DeskView + Drop, A: Allocator + Copy>(
     assert!(rt; done, "{line}");
 }
 
-/// The same of each of these lines.
+/// Each of these lines is an input that is handled.
 pub fn are_handled<D: DeskView + Drop, A: Allocator + Copy>(
     rt: &impl Abort,
     alloc: A,

@@ -185,7 +185,7 @@ fn requests_before<'a>(
     Ok(requests)
 }
 
-/// The same of a new controller.
+/// How many requests for memory a new controller makes of a case.
 fn requests_of(
     rt: &impl Abort,
     scratch: Global,
@@ -201,7 +201,7 @@ fn requests_of(
     )
 }
 
-/// The same of a heap that refuses none.
+/// How many requests for memory a case makes where a heap refuses none.
 fn requests_made(rt: &(impl AllocGlobal + Abort), case: Case<'_>) -> Result<u64, Fail> {
     requests_of(rt, rt.alloc(), &RefusingHeap::ample(rt.alloc()), case)
 }
@@ -231,7 +231,7 @@ fn is_answered(rt: &(impl AllocGlobal + Abort), case: Case<'_>) -> Result<(), Fa
     Ok(())
 }
 
-/// The same of each case of a text.
+/// Each case of a text is answered.
 fn are_answered(rt: &(impl AllocGlobal + Abort), site: &str, cases: &str) -> Result<(), Fail> {
     for lines in cases.split("\n\n") {
         is_answered(rt, case_of(site, lines)?)?;

@@ -22,7 +22,7 @@ fn new_desk<A: Allocator + Copy>(alloc: A, scratch: Global) -> Result<Desk<A>, F
     empty_desk(alloc, &shared_site(alloc, scratch, THREE_CHANNELS)?)
 }
 
-/// The same under a lock.
+/// A new desk under a lock.
 fn locked<A: Allocator + Copy>(alloc: A, scratch: Global) -> Result<Lock<A>, Fail> {
     Ok(Arc::new(alloc, Mutex::new(new_desk(alloc, scratch)?))?)
 }

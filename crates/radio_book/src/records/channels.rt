@@ -38,7 +38,7 @@ impl<T: Tables> Records<T> {
         self.step_from(x, before, event);
     }
 
-    /// The same of a channel that is known to be in this state.
+    /// A channel that is known to be in this state takes the step of an event.
     pub(super) fn step_from(&mut self, x: ChanId, before: ChanState, event: ChanEvent)
         requires state { state_of self.old x ≡ before }
         requires event { next_state chan.Free event ≡ None }

@@ -119,7 +119,7 @@ fn names(rt: &impl Abort, site: &Site<Global>, rows: &[Named]) {
     }
 }
 
-/// The same in the site file with the first place of a text replaced.
+/// The rows name what is reported in the site file with the first place of a text replaced.
 fn names_in(
     rt: &(impl AllocGlobal + Abort),
     old: &str,

@@ -138,7 +138,7 @@ pub fn give_all<R: Threads + Wait + Abort + AllocGlobal + Drop>(
     }
 }
 
-/// The same, but each is taken before the next is given. Nothing was given before them.
+/// Gives lines one by one, each once the one before was taken. Nothing was given before them.
 pub fn give_each<R: Threads + Wait + Abort + AllocGlobal + Drop>(
     rt: &R,
     hall: &mut Hall<R, Global>,
@@ -233,7 +233,7 @@ pub fn at_a_desk<
     Ok(())
 }
 
-/// The same over the empty book of a site, with a gate that holds nothing.
+/// Plays a course at an office over the empty book of a site, with a gate that holds nothing.
 pub fn at_an_office<
     R: Threads + Wait + Abort + AllocGlobal + Clone + Drop + Send + 'static,
     C: Course,
