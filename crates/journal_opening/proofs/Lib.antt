@@ -1,2 +1,2 @@
--- a journal's file that is begun
+-- a journal that begins, and one that goes on
 pub mod Beginnings

@@ -103,7 +103,15 @@ fn go_on_with<'a, R: Files + AllocGlobal, W: Write, E: Write>(
         last.entry.number last.entry.octets.now on.0 on.1) }
 {
     let alloc = rt.alloc();
-    let found = found_in(alloc, last.path, site, site_sum, last.number, last.octets, errors)?;
+    let found = found_in(
+        alloc,
+        last.path,
+        site,
+        site_sum,
+        last.number,
+        last.octets,
+        errors,
+    )?;
     let told = told_again(alloc, &folder, asked, &spans, found.last, errors)?;
     let (whole, _cut) = last.octets.split_at(found.whole);
     let journal = Journal::go_on(alloc, folder, spans, whole, found.last, asked.keep)?;
@@ -136,7 +144,7 @@ fn go_on<'a, R: Files + AllocGlobal, W: Write, E: Write>(
     ensures goes_on { IfOk result (λ on. (octets : List ℕ) × IsRead R.File.remaining octets
         × GoesOn R.File.contents site_sum site.value number octets on.0 on.1) }
 {
-    let path = folder.span_path(number).map_err(|_| OpenFault::NoMemory)?;
+    let path = folder.span_path(number)?;
     let octets = octets_of(&folder, number, &path, errors)?;
     let last = LastFile {
         number,
@@ -161,7 +169,7 @@ fn begin<'a, R: Files + AllocGlobal, E: Write>(
         return Err(refuse(asked.folder, UNHEARD, errors));
     }
     let alloc = rt.alloc();
-    let book = Book::new(alloc, site).map_err(|_| OpenFault::NoMemory)?;
+    let book = Book::new(alloc, site)?;
     let head = match head_body(alloc, site_sum, &book) {
         Ok(head) => head,
         Err(HeadFault::NoMemory) => return Err(OpenFault::NoMemory),
@@ -202,7 +210,7 @@ where
         Ok(Some(folder)) => Ok(folder),
         Ok(None) => Err(refuse(path, "another controller has this journal", errors)),
         Err(error) => {
-            let path = Folder::lock_path(rt, path).map_err(|_| OpenFault::NoMemory)?;
+            let path = Folder::lock_path(rt, path)?;
             Err(refuse_file(&path, error, errors))
         }
     }
@@ -265,8 +273,8 @@ where
     Ok(Opened { journal, book })
 }
 
-/// Opens the journal of a folder: goes on with the one that is there, or begins one. Nothing where it is refused, as `errors` then
-/// says; no file was changed then.
+/// Opens the journal of a folder: goes on with the one that is there, or begins one. Nothing where it is refused, as `errors`
+/// then says; no file was changed then.
 pub fn open_journal<'a, R: Files + AllocGlobal, W: Write, E: Write>(
     rt: &'a R,
     asked: Asked<'a>,

@@ -36,7 +36,7 @@ fn tell_span<R: Files + AllocGlobal, E: Write>(
     told: &mut Vec<u8>,
     errors: &mut E,
 ) -> Result<(), OpenFault> {
-    let path = folder.span_path(number).map_err(|_| OpenFault::NoMemory)?;
+    let path = folder.span_path(number)?;
     let octets = octets_of(folder, number, &path, errors)?;
     let whole = match whole_octets(&octets) {
         Ok(whole) => whole,

@@ -20,8 +20,13 @@ use Rattle.journal_resume.proofs.Steps.{numbered_more}
 
 pub behind_is_shorter : (octets : List ℕ) (n : ℕ) (body behind : List ℕ) → BeginsWith octets n body behind → length behind < length octets
 behind_is_shorter octets n body behind begins =
-    omega (arith, ap length begins.text, length-append (record_text n body) behind, length-append (head_text n (length body) (checksum body)) body,
-    head_length_is n (length body) (checksum body))
+    omega (
+      arith,
+      ap length begins.text,
+      length-append (record_text n body) behind,
+      length-append (head_text n (length body) (checksum body)) body,
+      head_length_is n (length body) (checksum body),
+    )
 
 pub in_front_more : (rs : List Numbered) (octets left : List ℕ) (n : ℕ) (body behind : List ℕ) → AreInFront rs octets left → BeginsWith left n body behind →
     AreInFront (rs ++ (n, body) ∷ []) octets behind

@@ -40,8 +40,8 @@ AreNumbered first (r ∷ records) = (r.0 ≡ first) × AreNumbered (first + 1) r
 abbrev pub IsReadable : List ℕ → Type 0
 IsReadable body = IsUtf8 body × (first_unreadable body ≡ None)
 
--- A book takes records, the first of which should have this number: each has its number, can be read, and has the replies that the
--- book gives behind the records before.
+-- A book takes records, the first of which should have this number: each has its number, can be read, and has the replies that
+-- the book gives behind the records before.
 pub record AreTaken (b : State) (first : ℕ) (records : List Numbered) : Type 0 where
   pub numbered : AreNumbered first records
   pub readable : All (λ (r : Numbered). IsReadable r.1) records

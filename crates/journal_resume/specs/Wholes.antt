@@ -20,7 +20,8 @@ AreInFront (r ∷ records) octets behind = (next : List ℕ) × BeginsWith octet
 abbrev pub AreAll : List Numbered → List ℕ → List ℕ → Type 0
 AreAll records octets left = AreInFront records octets left × NoRecord left
 
--- A journal's file without a record at its end that was cut: its first line, and all its records, of which each has its checksums.
+-- A journal's file without a record at its end that was cut: its first line, and all its records, of which each has its
+-- checksums.
 pub record IsWhole (octets whole : List ℕ) : Type 0 where
   pub records : List Numbered
   pub behind : List ℕ
@@ -30,8 +31,8 @@ pub record IsWhole (octets whole : List ℕ) : Type 0 where
   pub end : IsEnd left
   pub whole_is : octets ≡ whole ++ left
 
--- Why a file isn't read as a journal to its end: its first line is another; or it doesn't end behind its records, where this place
--- is.
+-- Why a file isn't read as a journal to its end: its first line is another; or it doesn't end behind its records, where this
+-- place is.
 abbrev pub IsWholeReason : WholeFault → List ℕ → Type 0
 IsWholeReason (fault.File file.NotAJournal) octets = Begins kind octets → ⊥
 IsWholeReason (fault.File file.UnknownVersion) octets = Begins kind octets × (Begins first_line octets → ⊥)
