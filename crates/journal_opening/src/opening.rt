@@ -148,8 +148,8 @@ fn go_on<'a, R: Files + AllocGlobal, W: Write, E: Write>(
     let octets = octets_of(&folder, number, &path, errors)?;
     let last = LastFile {
         number,
-        path: &path,
-        octets: &octets,
+        path: path.as_str(),
+        octets: octets.as_slice(),
     };
     go_on_with(rt, folder, asked, spans, last, site, site_sum, out, errors)
 }
@@ -238,7 +238,7 @@ fn open_listed<'a, R: Files + AllocGlobal, W: Write, E: Write>(
     ensures opens { IfOk result (λ on. OpensBy R.File.contents R.File.remaining site_sum site.value
         (last_span spans.items) on.0 on.1) }
 {
-    match last_of(&spans) {
+    match last_of(spans.as_slice()) {
         Some(last) => go_on(rt, folder, asked, spans, last, site, site_sum, out, errors),
         None => {
             let begun = begin(rt, folder, asked, site, site_sum, errors)?;

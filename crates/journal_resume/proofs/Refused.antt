@@ -1,5 +1,5 @@
 -- The reasons of refusals, behind one record more.
-use Rattle.std.proofs.Common.{◌≡◌, inl, ◌+◌, ◌<◌, ℕ, List, [], ◌∷◌, ◌++◌, length, length-append, take, drop, append_assoc, Result, Ok, Err, IsErrAnd, IfErr, refl, sym, subst, ◌∙◌, ap, arith}
+use Rattle.std.proofs.Common.{◌≡◌, inl, inr, ◌+◌, ◌^◌, ◌<◌, ℕ, List, [], ◌∷◌, ◌++◌, length, length-append, take, drop, append_assoc, Result, Ok, Err, IsErrAnd, IfErr, refl, sym, subst, ◌∙◌, ap, arith}
 use Rattle.std.proofs.lemmas.List.{take_at, take-append-drop}
 use Rattle.cell_table.specs.Site.{SiteView}
 use Rattle.radio_book.specs.State.{State, empty_book}
@@ -55,6 +55,10 @@ pub reason_at_head : (f : ResumeFault) (b : State) (number : ℕ) (octets : List
 reason_at_head f b number octets why =
     let place : number ≡ number + 0 = omega arith in
     ([], octets, refl, none_taken b number, subst (λ k. IsNextReason f b k octets) place why)
+
+-- behind the highest number there is none
+pub no_number_behind : (b : State) (number : ℕ) (octets : List ℕ) → number + 1 ≡ 2 ^ 64 → IsReasonBehind (fault.Misplaced number) b (number + 1) octets
+no_number_behind b number octets is = ([], octets, refl, none_taken b (number + 1), inr (is, omega (arith, is)))
 
 -- behind the head
 pub reason_behind_head : (f : ResumeFault) (b opening : State) (number : ℕ) (octets head behind : List ℕ) → BeginsWith octets number head behind →

@@ -19,7 +19,7 @@ loop-event-preserved g c =
     let so_far = string_bytes c.loop-event.lines in
     let rest = drop (i + 1) es in
     let more : drop i es ≡ e ∷ rest = drop_more es i none c.loop-event-test.true in
-    ap (λ t. t ++ event_lines c.step.new.self rest) c.in_ok-with_line.ensures
+    ap (λ t. t ++ event_lines c.step.new.self rest) c.in_ok-lines.ensures
     ∙ append_assoc so_far (event_line e c.in_ok-reply.reply) (event_lines c.step.new.self rest)
     ∙ ap (λ r. so_far ++ (event_line e r ++ event_lines c.step.new.self rest)) c.in_ok-reply.ensures.reply
     ∙ ap (λ x. so_far ++ (event_line e (reply_to b e) ++ event_lines x rest)) c.in_ok-reply.ensures.book

@@ -1,7 +1,16 @@
-use Rattle.std.proofs.Common.{inr, refl, arith}
-use Rattle.journal_resume.proofs.Steps.{read_more, one_more}
-use Rattle.journal_resume.proofs.Refused.{handed_on, record_reason, reason_so_far}
+use Rattle.std.proofs.Common.{◌≡◌, ◌+◌, ◌^◌, inr, refl, arith}
+use Rattle.std.proofs.lemmas.Grind.{common_steps}
+use Rattle.journal_resume.proofs.Steps.{none_yet, read_more, one_more}
+use Rattle.journal_resume.proofs.Refused.{handed_on, record_reason, reason_so_far, no_number_behind}
 use Rattle.journal_resume.proofs.resuming.follow_records.Goals as goal
+
+pub returns-in_default-clause-reason : goal.returns-in_default-clause-reason
+returns-in_default-clause-reason g c =
+    let highest : c.args.number + 1 ≡ 2 ^ 64 = grind (arith, common_steps) in
+    no_number_behind c.args.opening c.args.number c.args.octets.now highest
+
+pub loop-next-init : goal.loop-next-init
+loop-next-init g c = record { so_far = none_yet c.args.opening c.args.number c.args.octets.now; next = grind (arith, common_steps) }
 
 pub loop-next-preserved : goal.loop-next-preserved
 loop-next-preserved g c =
