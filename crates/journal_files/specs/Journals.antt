@@ -1,6 +1,6 @@
 -- What a journal that is written shows to its callers. Ours, of no standard. What is told of a file is what is handed to it: what a
 -- file system makes of that no definition says.
-use Rattle.std.specs.Prelude.{◌≡◌, ◌≢◌, ◌≤◌, ℕ, List, [], ◌∷◌, ◌++◌, length, max, Option, Some, None, ⊤}
+use Rattle.std.specs.Prelude.{◌≡◌, ◌≢◌, ◌≤◌, ◌-◌, ℕ, List, [], ◌∷◌, ◌++◌, length, max, Option, Some, None, IfSome, ⊤}
 use Rattle.std.specs.Io.KnownBytes.{Appends}
 use Rattle.journal_records.specs.Records.{record_text}
 use Rattle.journal_records.specs.Files.{first_line}
@@ -22,6 +22,21 @@ last_of j = j.last
 abbrev pub spans_of : {R F D : Type 0} → Journal R F D → List ℕ
 spans_of j = j.spans.items
 
+-- how many lines were noted since they were counted anew
+abbrev pub lines_of : {R F D : Type 0} → Journal R F D → ℕ
+lines_of j = j.last - j.counted_from
+
+-- how many octets the file has, those that wait counted, or how many were noted since they were counted anew
+abbrev pub octets_of : {R F D : Type 0} → Journal R F D → ℕ
+octets_of j = j.octets
+
+-- with so many octets that wait they should be put on the disk, and with so many in a file the next should be begun
+abbrev pub most_waiting : ℕ
+most_waiting = 65536
+
+abbrev pub long : ℕ
+long = 33554432
+
 -- how many files stay
 abbrev pub keep_of : {R F D : Type 0} → Journal R F D → Option ℕ
 keep_of j = j.keep
@@ -29,6 +44,10 @@ keep_of j = j.keep
 -- these octets were handed to a file since it was opened
 abbrev pub IsHanded : {F : Type 0} → (F → Option (List ℕ)) → List ℕ → F → Type 0
 IsHanded {F} contents octets file = (opened : F) × Appends (contents opened) (contents file) octets
+
+-- these are all octets that a file gave since it was opened
+abbrev pub IsRead : {F : Type 0} → (F → Option (List ℕ)) → List ℕ → Type 0
+IsRead {F} remaining octets = (opened : F) × IfSome (remaining opened) (λ all. octets ≡ all)
 
 -- with which octets a file begins that begins behind a line
 abbrev pub begun : ℕ → List ℕ → List ℕ

@@ -3,7 +3,7 @@
 //! It is a handle: its files are those of the folder that was opened, also where that was moved, and another stands at its path.
 ghost use Rattle.std.specs.Prelude.{OnOk, IfOk};
 ghost use Rattle.std.specs.Io.KnownBytes.{Appends};
-ghost use Rattle.journal_files.specs.Journals.{IsHanded};
+ghost use Rattle.journal_files.specs.Journals.{IsHanded, IsRead};
 
 use crate::listing::{Listing, listing_of};
 use crate::locking::Locking;
@@ -216,7 +216,9 @@ impl<'a, R: Files + AllocGlobal> Folder<'a, R> {
     }
 
     /// All octets of the file that begins behind a line; `InvalidInput` where it is none.
-    pub fn read_span(&self, number: u64) -> io::Result<Vec<u8>> {
+    pub fn read_span(&self, number: u64) -> io::Result<Vec<u8>>
+        ensures read { IfOk result (λ octets. IsRead R.File.remaining octets.items) }
+    {
         let path = self.reach_span(number)?;
         refuse_endless(self.rt, &path)?;
         let mut file = File::open(self.rt, path.as_str())?;

@@ -1,9 +1,9 @@
 //! A journal that is written.
-ghost use Rattle.std.specs.Prelude.{◌≡◌, ◌≢◌, ◌+◌, ◌-◌, ◌^◌, ◌∷◌, ◌++◌, [], List, ℕ, min, Err, OnOk, OnErr, IfOk, IfSome, IfNone};
+ghost use Rattle.std.specs.Prelude.{◌≡◌, ◌≢◌, ◌↔◌, ◌≤◌, ◌+◌, ◌-◌, ◌^◌, ◌∷◌, ◌++◌, [], List, ℕ, length, min, IsTrue, Err, OnOk, OnErr, IfOk, IfSome, IfNone};
 ghost use Rattle.std.specs.Io.KnownBytes.{Appends};
 ghost use Rattle.journal_records.specs.Records.{record_text};
 ghost use Rattle.journal_files.specs.declared.journal.BeginFault.TheVariants.{NotBegun};
-ghost use Rattle.journal_files.specs.Journals.{file_of, waiting_of, last_of, spans_of, keep_of, begun, IsHanded, SameFiles, AreKept, OldestGo};
+ghost use Rattle.journal_files.specs.Journals.{file_of, waiting_of, last_of, spans_of, lines_of, octets_of, most_waiting, long, keep_of, begun, IsHanded, SameFiles, AreKept, OldestGo};
 
 use crate::folder::{Folder, is_moved, is_want_of_room};
 use journal_records::{FIRST_LINE, append_record};
@@ -83,6 +83,8 @@ impl<'a, R: Files + AllocGlobal> Journal<'a, R> {
         ensures spans { IfOk result (λ j. spans_of j ≡ 0 ∷ []) }
         ensures last { IfOk result (λ j. last_of j ≡ 0) }
         ensures waiting { IfOk result (λ j. waiting_of j ≡ []) }
+        ensures lines { IfOk result (λ j. lines_of j ≡ 0) }
+        ensures octets { IfOk result (λ j. octets_of j ≡ length (begun 0 head.now)) }
     {
         let octets = begun_octets(alloc, 0, head)?;
         let mut spans = Vec::new(alloc);
@@ -118,6 +120,7 @@ impl<'a, R: Files + AllocGlobal> Journal<'a, R> {
         ensures spans { IfOk result (λ j. spans_of j ≡ spans.items) }
         ensures last { IfOk result (λ j. last_of j ≡ last) }
         ensures waiting { IfOk result (λ j. waiting_of j ≡ []) }
+        ensures octets { IfOk result (λ j. octets_of j ≡ length octets.now) }
     {
         let number = spans.last().copied().unwrap_or(0);
         let (file, unroomed) = match write_anew(&folder, number, octets) {
@@ -153,17 +156,23 @@ impl<'a, R: Files + AllocGlobal> Journal<'a, R> {
     }
 
     /// How many lines were noted since the file was begun, or since they were counted anew.
-    pub fn lines(&self) -> u64 {
+    pub fn lines(&self) -> u64
+        ensures { result ≡ lines_of self.now }
+    {
         self.last.saturating_sub(self.counted_from)
     }
 
     /// Whether the file has so many octets that the next should be begun.
-    pub fn is_long(&self) -> bool {
+    pub fn is_long(&self) -> bool
+        ensures { IsTrue result ↔ (long ≤ octets_of self.now) }
+    {
         self.octets >= LONG
     }
 
     /// Counts the lines and octets anew that are noted.
     pub fn count_anew(&mut self)
+        ensures lines { lines_of self.new ≡ 0 }
+        ensures octets { octets_of self.new ≡ 0 }
         ensures files { SameFiles self.old self.new }
         ensures last { last_of self.new ≡ last_of self.old }
         ensures waiting { waiting_of self.new ≡ waiting_of self.old }
@@ -173,7 +182,9 @@ impl<'a, R: Files + AllocGlobal> Journal<'a, R> {
     }
 
     /// Whether so much waits that it should be put on the disk.
-    pub fn is_full(&self) -> bool {
+    pub fn is_full(&self) -> bool
+        ensures { IsTrue result ↔ (most_waiting ≤ length (waiting_of self.now)) }
+    {
         self.waiting.len() >= MOST_WAITING
     }
 
@@ -184,6 +195,8 @@ impl<'a, R: Files + AllocGlobal> Journal<'a, R> {
         ensures next { OnOk result (last_of self.new ≡ min (last_of self.old + 1) (2 ^ 64 - 1)) }
         ensures unchanged { OnErr result (waiting_of self.new ≡ waiting_of self.old) }
         ensures last { OnErr result (last_of self.new ≡ last_of self.old) }
+        ensures octets { OnOk result (octets_of self.new ≡
+            min (octets_of self.old + length (record_text (last_of self.new) body.now)) (2 ^ 64 - 1)) }
         ensures files { SameFiles self.old self.new }
     {
         let number = self.last.saturating_add(1);
@@ -218,6 +231,7 @@ impl<'a, R: Files + AllocGlobal> Journal<'a, R> {
         head: &[u8],
     ) -> Result<Option<io::Error>, BeginFault>
         ensures file { OnOk result (IsHanded R.File.contents (begun (last_of self.old) head.now) (file_of self.new)) }
+        ensures octets { OnOk result (octets_of self.new ≡ length (begun (last_of self.old) head.now)) }
         ensures spans { OnOk result (OldestGo (spans_of self.old ++ last_of self.old ∷ []) (spans_of self.new)) }
         ensures kept { (error : _) → result ≡ Err (NotBegun error) → SameFiles self.old self.new }
         ensures last { last_of self.new ≡ last_of self.old }
@@ -261,6 +275,7 @@ impl<'a, R: Files + AllocGlobal> Journal<'a, R> {
         ensures spans { OldestGo (spans_of self.old) (spans_of self.new) }
         ensures kept { IfNone result (AreKept (keep_of self.new) (spans_of self.new)) }
         ensures file { file_of self.new ≡ file_of self.old }
+        ensures octets { octets_of self.new ≡ octets_of self.old }
         ensures last { last_of self.new ≡ last_of self.old }
         ensures waiting { waiting_of self.new ≡ waiting_of self.old }
     {

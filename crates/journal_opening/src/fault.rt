@@ -1,5 +1,6 @@
 //! Why no journal is opened, and how that is told.
 use screen_text::{Escaped, Reason};
+use std::alloc::AllocError;
 use std::fmt;
 use std::io::{self, Write};
 
@@ -13,6 +14,12 @@ pub(crate) enum OpenFault {
     System(io::Error),
     /// It was told.
     Told,
+}
+
+impl From<AllocError> for OpenFault {
+    fn from(_: AllocError) -> OpenFault {
+        OpenFault::NoMemory
+    }
 }
 
 impl From<io::Error> for OpenFault {

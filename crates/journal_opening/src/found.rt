@@ -1,4 +1,7 @@
 //! The book of a journal's file that was read.
+ghost use Rattle.std.specs.Prelude.{◌≢◌, ◌≤◌, ◌↔◌, [], length, drop, IfOk, IsTrue};
+ghost use Rattle.journal_resume.specs.Resume.{IsJournal};
+
 use crate::fault::{OpenFault, refuse};
 use cell_table::Site;
 use journal_resume::{ResumeFault, Resumed, damage_at, resume};
@@ -34,7 +37,12 @@ pub(crate) fn found_in<E: Write>(
     number: u64,
     octets: &[u8],
     errors: &mut E,
-) -> Result<Found, OpenFault> {
+) -> Result<Found, OpenFault>
+    ensures within { IfOk result (λ found. found.whole ≤ length octets.now) }
+    ensures journal { IfOk result (λ found. IsJournal site_sum site.value number octets.now found.book found.last
+        (drop found.whole octets.now)) }
+    ensures cut { IfOk result (λ found. IsTrue found.is_cut ↔ (drop found.whole octets.now ≢ [])) }
+{
     let Resumed { book, last, left } = match resume(alloc, site, site_sum, number, octets) {
         Ok(resumed) => resumed,
         Err(ResumeFault::NoMemory) => return Err(OpenFault::NoMemory),
@@ -46,7 +54,7 @@ pub(crate) fn found_in<E: Write>(
     Ok(Found {
         book,
         last,
-        whole: octets.len().saturating_sub(left.len()),
+        whole: octets.len() - left.len(),
         is_cut: !left.is_empty(),
     })
 }

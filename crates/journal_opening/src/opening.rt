@@ -1,4 +1,8 @@
 //! A journal that is opened: gone on with, or begun.
+ghost use Rattle.std.specs.Prelude.{◌≡◌, ℕ, List, IfOk, IfSome};
+ghost use Rattle.journal_files.specs.Journals.{IsRead};
+ghost use Rattle.journal_opening.specs.Openings.{last_span, GoesOn, Begins, OpensBy, Opens};
+
 use crate::fault::{OpenFault, refuse, refuse_file};
 use crate::found::{Found, found_in, say_resumed};
 use crate::told::{UNHEARD, octets_of, told_again};
@@ -75,29 +79,44 @@ fn say_unroomed<R: Files + AllocGlobal, E: Write>(
     }
 }
 
-/// Goes on with the journal that a folder has. Before anything is told of it, or sent once more, it is on the disk.
-fn go_on<'a, R: Files + AllocGlobal, W: Write, E: Write>(
+/// The last file of a journal, which was read: its number, its path and its octets.
+#[derive(Clone, Copy)]
+struct LastFile<'a> {
+    number: u64,
+    path: &'a str,
+    octets: &'a [u8],
+}
+
+/// Goes on with a journal whose last file was read. Before anything is told of it, or sent once more, it is on the disk.
+fn go_on_with<'a, R: Files + AllocGlobal, W: Write, E: Write>(
     rt: &'a R,
     folder: Folder<'a, R>,
     asked: Asked<'a>,
     spans: Vec<u64>,
-    last_span: u64,
+    last: LastFile<'_>,
     site: Arc<Site>,
     site_sum: u32,
     out: &mut W,
     errors: &mut E,
-) -> Result<(Journal<'a, R>, Book), OpenFault> {
+) -> Result<(Journal<'a, R>, Book), OpenFault>
+    ensures goes_on { IfOk result (λ on. GoesOn R.File.contents site_sum site.value
+        last.entry.number last.entry.octets.now on.0 on.1) }
+{
     let alloc = rt.alloc();
-    let path = folder
-        .span_path(last_span)
-        .map_err(|_| OpenFault::NoMemory)?;
-    let octets = octets_of(&folder, last_span, &path, errors)?;
-    let found = found_in(alloc, &path, site, site_sum, last_span, &octets, errors)?;
+    let found = found_in(
+        alloc,
+        last.path,
+        site,
+        site_sum,
+        last.number,
+        last.octets,
+        errors,
+    )?;
     let told = told_again(alloc, &folder, asked, &spans, found.last, errors)?;
-    let (octets, _cut) = octets.split_at(found.whole.min(octets.len()));
-    let journal = Journal::go_on(alloc, folder, spans, octets, found.last, asked.keep)?;
+    let (whole, _cut) = last.octets.split_at(found.whole);
+    let journal = Journal::go_on(alloc, folder, spans, whole, found.last, asked.keep)?;
     say_unroomed(&journal, asked.folder, errors).map_err(|_| OpenFault::Write)?;
-    say_resumed(&found, &path, errors).map_err(|_| OpenFault::Write)?;
+    say_resumed(&found, last.path, errors).map_err(|_| OpenFault::Write)?;
     out.write_all(told.as_slice())
         .map_err(|_| OpenFault::Write)?;
     out.flush().map_err(|_| OpenFault::Write)?;
@@ -110,6 +129,31 @@ fn go_on<'a, R: Files + AllocGlobal, W: Write, E: Write>(
     Ok((journal, book))
 }
 
+/// Goes on with the journal that a folder has: with what its last file has.
+fn go_on<'a, R: Files + AllocGlobal, W: Write, E: Write>(
+    rt: &'a R,
+    folder: Folder<'a, R>,
+    asked: Asked<'a>,
+    spans: Vec<u64>,
+    number: u64,
+    site: Arc<Site>,
+    site_sum: u32,
+    out: &mut W,
+    errors: &mut E,
+) -> Result<(Journal<'a, R>, Book), OpenFault>
+    ensures goes_on { IfOk result (λ on. (octets : List ℕ) × IsRead R.File.remaining octets
+        × GoesOn R.File.contents site_sum site.value number octets on.0 on.1) }
+{
+    let path = folder.span_path(number)?;
+    let octets = octets_of(&folder, number, &path, errors)?;
+    let last = LastFile {
+        number,
+        path: path.as_str(),
+        octets: octets.as_slice(),
+    };
+    go_on_with(rt, folder, asked, spans, last, site, site_sum, out, errors)
+}
+
 /// Begins a journal in a folder that has none; no line can have been heard then.
 fn begin<'a, R: Files + AllocGlobal, E: Write>(
     rt: &'a R,
@@ -118,12 +162,14 @@ fn begin<'a, R: Files + AllocGlobal, E: Write>(
     site: Arc<Site>,
     site_sum: u32,
     errors: &mut E,
-) -> Result<(Journal<'a, R>, Book), OpenFault> {
+) -> Result<(Journal<'a, R>, Book), OpenFault>
+    ensures begins { IfOk result (λ on. Begins R.File.contents site_sum site.value on.0 on.1) }
+{
     if asked.heard.unwrap_or(0) > 0 {
         return Err(refuse(asked.folder, UNHEARD, errors));
     }
     let alloc = rt.alloc();
-    let book = Book::new(alloc, site).map_err(|_| OpenFault::NoMemory)?;
+    let book = Book::new(alloc, site)?;
     let head = match head_body(alloc, site_sum, &book) {
         Ok(head) => head,
         Err(HeadFault::NoMemory) => return Err(OpenFault::NoMemory),
@@ -164,8 +210,40 @@ where
         Ok(Some(folder)) => Ok(folder),
         Ok(None) => Err(refuse(path, "another controller has this journal", errors)),
         Err(error) => {
-            let path = Folder::lock_path(rt, path).map_err(|_| OpenFault::NoMemory)?;
+            let path = Folder::lock_path(rt, path)?;
             Err(refuse_file(&path, error, errors))
+        }
+    }
+}
+
+/// The last of the numbers that files have in their names.
+fn last_of(spans: &[u64]) -> Option<u64>
+    ensures { result ≡ last_span spans.now }
+{
+    spans.last().copied()
+}
+
+/// Goes on with the last of the files that a folder has, or begins one.
+fn open_listed<'a, R: Files + AllocGlobal, W: Write, E: Write>(
+    rt: &'a R,
+    folder: Folder<'a, R>,
+    asked: Asked<'a>,
+    spans: Vec<u64>,
+    is_named: bool,
+    site: Arc<Site>,
+    site_sum: u32,
+    out: &mut W,
+    errors: &mut E,
+) -> Result<(Journal<'a, R>, Book), OpenFault>
+    ensures opens { IfOk result (λ on. OpensBy R.File.contents R.File.remaining site_sum site.value
+        (last_span spans.items) on.0 on.1) }
+{
+    match last_of(spans.as_slice()) {
+        Some(last) => go_on(rt, folder, asked, spans, last, site, site_sum, out, errors),
+        None => {
+            let begun = begin(rt, folder, asked, site, site_sum, errors)?;
+            say_unsynced(asked.folder, is_named, errors)?;
+            Ok(begun)
         }
     }
 }
@@ -181,25 +259,22 @@ fn try_to_open<'a, R: Files + AllocGlobal, W: Write, E: Write>(
 ) -> Result<Opened<'a, R>, OpenFault>
 where
     R::File: Locking,
+    ensures opens { IfOk result (λ opened. Opens R.File.contents R.File.remaining site_sum site.value
+        opened.journal opened.book) }
 {
     let is_named = make_folder(rt, asked.folder, errors)?;
     let folder = lock_folder(rt, asked.folder, errors)?;
     let listing = folder.list()?;
     say_others(asked.folder, &listing, errors)?;
     let Listing { spans, others: _ } = listing;
-    let (journal, book) = match spans.last().copied() {
-        Some(last) => go_on(rt, folder, asked, spans, last, site, site_sum, out, errors)?,
-        None => {
-            let begun = begin(rt, folder, asked, site, site_sum, errors)?;
-            say_unsynced(asked.folder, is_named, errors)?;
-            begun
-        }
-    };
+    let (journal, book) = open_listed(
+        rt, folder, asked, spans, is_named, site, site_sum, out, errors,
+    )?;
     Ok(Opened { journal, book })
 }
 
-/// Opens the journal of a folder: goes on with the one that is there, or begins one. Nothing where it is refused, as `errors` then
-/// says; no file was changed then.
+/// Opens the journal of a folder: goes on with the one that is there, or begins one. Nothing where it is refused, as `errors`
+/// then says; no file was changed then.
 pub fn open_journal<'a, R: Files + AllocGlobal, W: Write, E: Write>(
     rt: &'a R,
     asked: Asked<'a>,
@@ -210,6 +285,8 @@ pub fn open_journal<'a, R: Files + AllocGlobal, W: Write, E: Write>(
 ) -> Result<Option<Opened<'a, R>>, PrintFault>
 where
     R::File: Locking,
+    ensures opens { IfOk result (λ found. IfSome found (λ opened. Opens R.File.contents R.File.remaining
+        site_sum site.value opened.journal opened.book)) }
 {
     match try_to_open(rt, asked, site, site_sum, out, errors) {
         Ok(opened) => Ok(Some(opened)),

@@ -1,4 +1,7 @@
 //! What was sent for the lines behind the last one that was heard, told once more.
+ghost use Rattle.std.specs.Prelude.{IfOk};
+ghost use Rattle.journal_files.specs.Journals.{IsRead};
+
 use crate::fault::{OpenFault, refuse, refuse_file};
 use crate::opening::Asked;
 use journal_files::Folder;
@@ -14,7 +17,9 @@ pub(crate) fn octets_of<R: Files + AllocGlobal, E: Write>(
     number: u64,
     path: &str,
     errors: &mut E,
-) -> Result<Vec<u8>, OpenFault> {
+) -> Result<Vec<u8>, OpenFault>
+    ensures read { IfOk result (λ octets. IsRead R.File.remaining octets.items) }
+{
     match folder.read_span(number) {
         Ok(octets) => Ok(octets),
         Err(error) => Err(refuse_file(path, error, errors)),
@@ -31,7 +36,7 @@ fn tell_span<R: Files + AllocGlobal, E: Write>(
     told: &mut Vec<u8>,
     errors: &mut E,
 ) -> Result<(), OpenFault> {
-    let path = folder.span_path(number).map_err(|_| OpenFault::NoMemory)?;
+    let path = folder.span_path(number)?;
     let octets = octets_of(folder, number, &path, errors)?;
     let whole = match whole_octets(&octets) {
         Ok(whole) => whole,

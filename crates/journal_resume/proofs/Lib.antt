@@ -4,3 +4,7 @@ pub mod Zeros
 pub mod Steps
 -- the reasons of refusals
 pub mod Refused
+-- all records of some octets
+pub mod Fronts
+-- which fault of a head comes of which
+pub mod Faults

@@ -2,3 +2,4 @@ pub mod Ends
 pub mod Heads
 pub mod Resume
 pub mod Refusals
+pub mod Wholes

@@ -9,13 +9,9 @@ use Rattle.journal_records.specs.Files.{kind, first_line, Begins}
 use Rattle.trace_entries.specs.Entries.{first_unreadable, entries_of, events_of, HasReplies}
 use Rattle.journal_resume.specs.declared.resuming.ResumeFault.{ResumeFault}
 use Rattle.journal_resume.specs.declared.resuming.ResumeFault.TheVariants as fault
-use Rattle.journal_resume.specs.Ends.{IsEnd}
+use Rattle.journal_resume.specs.Ends.{NoRecord, IsEnd}
 use Rattle.journal_resume.specs.Heads.{site_line, BeginsWithLine}
-use Rattle.journal_resume.specs.Resume.{Numbered, records_text, events_in}
-
--- octets begin with no record
-abbrev pub NoRecord : List ℕ → Type 0
-NoRecord octets = (number : ℕ) (body behind : List ℕ) → BeginsWith octets number body behind → ⊥
+use Rattle.journal_resume.specs.Resume.{Numbered, AreTaken, records_text, events_in}
 
 -- octets begin with a record of another number
 abbrev pub BeginsWithAnother : ℕ → List ℕ → Type 0
@@ -59,10 +55,11 @@ IsNextReason fault.NoHead b next left = ⊥
 IsNextReason fault.Renamed b next left = ⊥
 IsNextReason fault.AnotherSite b next left = ⊥
 
--- behind whole records, the first of which has this number, there is a reason for the book to which their events lead from one
+-- A book takes the records in front, the first of which has this number; for the record that comes next there is a reason at the
+-- book to which their events lead. So the fault is of the first record that can't be taken.
 abbrev pub IsReasonBehind : ResumeFault → State → ℕ → List ℕ → Type 0
 IsReasonBehind fault b first octets =
-    (records : List Numbered) × (left : List ℕ) × (octets ≡ records_text records ++ left)
+    (records : List Numbered) × (left : List ℕ) × (octets ≡ records_text records ++ left) × AreTaken b first records
     × IsNextReason fault (run_book b (events_in records)) (first + length records) left
 
 -- what stands behind the first line begins with no record, or with one of another number

@@ -1,4 +1,5 @@
 //! Where a file with a damaged record can be cut, so that a whole journal is left.
+use crate::wholes::behind_records;
 use journal_records::{RecordFault, behind_first_line, first_record};
 use std::fmt;
 
@@ -30,18 +31,6 @@ impl fmt::Display for Damage {
             None => f.write_str("none is whole"),
         }
     }
-}
-
-/// What stands behind the records with which octets begin.
-fn behind_records(octets: &[u8]) -> &[u8] {
-    let mut left = octets;
-    for _ in 0..u64::MAX {
-        match first_record(left) {
-            Ok(taken) => left = taken.behind,
-            Err(RecordFault::Cut | RecordFault::Damaged) => break,
-        }
-    }
-    left
 }
 
 /// The number of the record with which octets begin, if they begin with a whole one.

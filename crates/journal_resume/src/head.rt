@@ -1,8 +1,8 @@
 //! The head of a journal's file that is begun: of which site it is, and the events that lead to the book with which it begins.
-ghost use Rattle.std.specs.Prelude.{◌≡◌, ◌++◌, ◌↔◌, IsTrue, string_bytes, IfOk, OnOk};
+ghost use Rattle.std.specs.Prelude.{◌≡◌, ◌≢◌, ◌⊎◌, ◌++◌, ◌↔◌, IsTrue, string_bytes, Err, IfOk};
 ghost use Rattle.radio_book.specs.State.{empty_book};
 ghost use Rattle.radio_book.specs.Run.{run_book};
-ghost use Rattle.trace_entries.specs.Entries.{entries_of, events_of};
+ghost use Rattle.opening_events.specs.Opening.{opening_events};
 ghost use Rattle.journal_resume.specs.Heads as spec;
 
 use crate::traces::ask_trace;
@@ -10,7 +10,6 @@ use event_text::writing::EventText;
 use opening_events::{OpeningFault, events_to};
 use radio_book::book::Book;
 use radio_book::event::{Event, Reply};
-use radio_book::run::run;
 use std::alloc::{AllocError, Allocator};
 use thiserror::Error;
 use trace_entries::entries::first_unreadable;
@@ -39,6 +38,11 @@ impl From<AllocError> for HeadFault {
 }
 
 impl From<OpeningFault> for HeadFault {
+    ghost use Rattle.std.specs.Prelude.{◌≡◌};
+    ghost use Rattle.journal_resume.specs.Heads.{head_fault_of};
+
+    ghost from_gives = { λ why fault. fault ≡ head_fault_of why };
+
     fn from(fault: OpeningFault) -> HeadFault {
         match fault {
             OpeningFault::Differs => HeadFault::Differs,
@@ -54,20 +58,6 @@ pub(crate) fn site_line<A: Allocator + Copy>(alloc: A, sum: u32) -> Result<Strin
     format!(in alloc; "site {sum}\n")
 }
 
-/// The lines of events with their replies, as a trace has them.
-fn event_lines<A: Allocator + Copy>(
-    alloc: A,
-    events: &[Event],
-    replies: &[Reply],
-) -> Result<String<A>, AllocError> {
-    let mut lines = String::new(alloc);
-    for (event, reply) in events.iter().zip(replies.iter()) {
-        let line = format!(in alloc; "event {} -> {}\n", EventText(*event), ReplyText(*reply))?;
-        lines.push_str(line.as_str())?;
-    }
-    Ok(lines)
-}
-
 /// A line, and what follows it.
 fn joined<A: Allocator + Copy>(mut line: String<A>, behind: &str) -> Result<String<A>, AllocError>
     ensures { IfOk result (λ text. string_bytes text ≡ string_bytes line ++ behind.now) }
@@ -76,25 +66,55 @@ fn joined<A: Allocator + Copy>(mut line: String<A>, behind: &str) -> Result<Stri
     Ok(line)
 }
 
+/// Lines, and behind them that of an event with the book's reply to it, as a trace has it.
+fn with_line<A: Allocator + Copy>(
+    alloc: A,
+    lines: String<A>,
+    event: Event,
+    reply: Reply,
+) -> Result<String<A>, AllocError>
+    ensures { IfOk result (λ text. string_bytes text ≡ string_bytes lines ++ spec.event_line event reply) }
+{
+    let line = format!(in alloc; "event {} -> {}\n", EventText(event), ReplyText(reply))?;
+    joined(lines, line.as_str())
+}
+
+/// The lines of events, each with the reply of a book that is asked them one after another.
+fn event_lines<A: Allocator + Copy>(
+    alloc: A,
+    book: &mut Book<A>,
+    events: &[Event],
+) -> Result<String<A>, AllocError>
+    ensures { IfOk result (λ lines. string_bytes lines ≡ spec.event_lines book.old events.now) }
+{
+    let mut lines = String::new(alloc);
+    for event in events {
+        let reply = book.step(*event)?;
+        lines = with_line(alloc, lines, *event, reply)?;
+    }
+    Ok(lines)
+}
+
 /// The text of a head: the line of the site, and those of the events that are known to lead to the book.
 fn head_text<A: Allocator + Copy>(
     alloc: A,
     site_sum: u32,
     book: &Book<A>,
 ) -> Result<String<A>, HeadFault>
-    ensures { IfOk result (λ text. spec.BeginsWithLine (spec.site_line site_sum) (string_bytes text)) }
+    ensures text { IfOk result (λ text. string_bytes text ≡ spec.head_text site_sum book.now) }
+    ensures differs { result ≡ Err HeadFault.Differs →
+        run_book (empty_book book.now.site) (opening_events book.now) ≢ book.now }
 {
     let events = events_to(alloc, book)?;
-    let empty = Book::new(alloc, book.site().clone()?)?;
-    let (_after, replies) = run(alloc, &empty, &events)?;
-    let lines = event_lines(alloc, &events, &replies)?;
+    let mut asked = Book::new(alloc, book.site().clone()?)?;
+    let lines = event_lines(alloc, &mut asked, &events)?;
     let line = site_line(alloc, site_sum)?;
     Ok(joined(line, lines.as_str())?)
 }
 
 /// Whether a trace leads from the empty book of a book's site to that book, reply by reply.
 fn leads_to<A: Allocator + Copy>(alloc: A, trace: &str, book: &Book<A>) -> Result<bool, AllocError>
-    ensures { IfOk result (λ leads. IsTrue leads → spec.LeadsTo trace.now book.now) }
+    ensures { IfOk result (λ leads. IsTrue leads ↔ (spec.LeadsTo trace.now book.now)) }
 {
     if first_unreadable(trace).is_some() {
         return Ok(false);
@@ -105,15 +125,21 @@ fn leads_to<A: Allocator + Copy>(alloc: A, trace: &str, book: &Book<A>) -> Resul
 }
 
 /// The body of the first record of a file that begins with a book: the site's checksum, and a trace that leads from the empty
-/// book of the site to the book. What is answered was read back, and asked once more: where that leads to another book,
-/// nothing is answered (`Differs`).
+/// book of the site to the book: the events that are known to lead there, each with its reply.
+///
+/// What is answered was read back, and asked once more. `Differs` only where these events lead to another book, or the lines,
+/// read back, do.
 pub fn head_body<A: Allocator + Copy>(
     alloc: A,
     site_sum: u32,
     book: &Book<A>,
 ) -> Result<String<A>, HeadFault>
+    ensures text { IfOk result (λ body. string_bytes body ≡ spec.head_text site_sum book.now) }
     ensures site { IfOk result (λ body. spec.BeginsWithLine (spec.site_line site_sum) (string_bytes body)) }
     ensures leads { IfOk result (λ body. spec.LeadsTo (string_bytes body) book.now) }
+    ensures differs { result ≡ Err HeadFault.Differs →
+        (run_book (empty_book book.now.site) (opening_events book.now) ≢ book.now)
+        ⊎ (spec.LeadsTo (spec.head_text site_sum book.now) book.now → ⊥) }
 {
     let text = head_text(alloc, site_sum, book)?;
     if leads_to(alloc, text.as_str(), book)? {

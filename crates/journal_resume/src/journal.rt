@@ -1,33 +1,20 @@
 //! A journal's file as a whole.
-ghost use Rattle.std.specs.Prelude.{◌≡◌, ◌↔◌, ◌++◌, OnOk, IfOk, IfErr, IsTrue};
+ghost use Rattle.std.specs.Prelude.{◌≡◌, ◌↔◌, ◌++◌, ◌-◌, [], length, take, OnOk, IfOk, IfErr, IsTrue};
 ghost use Rattle.radio_book.specs.State.{empty_book};
 ghost use Rattle.radio_book.specs.Run.{run_book, run_replies};
 ghost use Rattle.trace_entries.specs.Entries.{entries_of, events_of, HasReplies};
 ghost use Rattle.journal_records.specs.Records.{BeginsWith};
 ghost use Rattle.journal_resume.specs.Heads as heads;
-ghost use Rattle.journal_resume.specs.Resume.{IsJournal};
+ghost use Rattle.journal_resume.specs.Resume.{IsReadable, IsJournal};
 ghost use Rattle.journal_resume.specs.Refusals.{IsReason, IsHeadReason, IsRecordReason};
 
-use crate::ends::is_end;
 use crate::head::site_line;
 use crate::resuming::{ResumeFault, Resumed, follow_records, take_record};
 use cell_table::Site;
-use journal_records::{FileFault, Record, RecordFault, behind_first_line, first_record};
+use journal_records::{Record, RecordFault, behind_first_line, first_record};
 use radio_book::book::Book;
 use std::alloc::{AllocError, Allocator};
 use std::sync::Arc;
-use thiserror::Error;
-
-/// Why a file isn't read as a journal to its end.
-#[derive(Clone, Copy, Debug, PartialEq, Eq, Error)]
-pub enum WholeFault {
-    /// It isn't one of this version.
-    #[error("{0}")]
-    File(FileFault),
-    /// It has no record of a place of its octets, counted from 0, and none that was cut.
-    #[error("octet {0}: the record is damaged")]
-    Damaged(usize),
-}
 
 /// Whether two texts are the same.
 fn is_same(one: &[u8], other: &[u8]) -> bool
@@ -85,6 +72,7 @@ fn book_of_head<A: Allocator + Copy>(
 ) -> Result<Book<A>, ResumeFault>
     ensures book { IfOk result (λ book.
         book ≡ run_book (empty_book site.value) (events_of (entries_of head.entry.body.now))) }
+    ensures readable { IfOk result (λ _. IsReadable head.entry.body.now) }
     ensures replies { IfOk result (λ _. HasReplies head.entry.body.now
         (run_replies (empty_book site.value) (events_of (entries_of head.entry.body.now)))) }
     ensures reason { IfErr result (λ fault.
@@ -100,7 +88,7 @@ fn book_of_head<A: Allocator + Copy>(
 /// was cut is left, with zeros behind it.
 ///
 /// It is refused only for the reason that the fault says, which the file then has. A fault has the number of the first record
-/// that can't be taken.
+/// that can't be taken: all before it can.
 pub fn resume<'a, A: Allocator + Copy>(
     alloc: A,
     site: Arc<Site<A>, A>,
@@ -109,6 +97,9 @@ pub fn resume<'a, A: Allocator + Copy>(
     octets: &'a [u8],
 ) -> Result<Resumed<'a, A>, ResumeFault>
     ensures journal { IfOk result (λ r. IsJournal site_sum site.value number octets.now r.book r.last r.left.now) }
+    // Without what was cut the file is a journal of the same book.
+    ensures whole { IfOk result (λ r. IsJournal site_sum site.value number
+        (take (length octets.now - length r.left.now) octets.now) r.book r.last []) }
     ensures reason { IfErr result (λ fault. IsReason fault site_sum site.value number octets.now) }
 {
     let records = match behind_first_line(octets) {
@@ -121,23 +112,4 @@ pub fn resume<'a, A: Allocator + Copy>(
     }
     let opening = book_of_head(alloc, site, head)?;
     follow_records(alloc, opening, number, head.behind)
-}
-
-/// The octets of a journal's file without a record at the end that was cut. Each record before it has its checksums.
-pub fn whole_octets(octets: &[u8]) -> Result<&[u8], WholeFault> {
-    let mut left = match behind_first_line(octets) {
-        Ok(records) => records,
-        Err(fault) => return Err(WholeFault::File(fault)),
-    };
-    for _ in 0..u64::MAX {
-        let place = octets.len().saturating_sub(left.len());
-        match first_record(left) {
-            Ok(taken) => left = taken.behind,
-            Err(RecordFault::Damaged | RecordFault::Cut) if is_end(left) => {
-                return Ok(octets.split_at(place.min(octets.len())).0);
-            }
-            Err(RecordFault::Damaged | RecordFault::Cut) => return Err(WholeFault::Damaged(place)),
-        }
-    }
-    Ok(octets)
 }

@@ -1,11 +1,11 @@
 //! The book to which records lead, one behind another.
-ghost use Rattle.std.specs.Prelude.{◌≡◌, ◌+◌, OnOk, OnErr, IfOk, IfErr, MatchOption};
+ghost use Rattle.std.specs.Prelude.{◌≡◌, ◌+◌, None, OnOk, OnErr, IfOk, IfErr, MatchOption};
 ghost use Rattle.radio_book.specs.State.{State};
 ghost use Rattle.radio_book.specs.Run.{run_book, run_replies};
-ghost use Rattle.trace_entries.specs.Entries.{entries_of, events_of, HasReplies};
+ghost use Rattle.trace_entries.specs.Entries.{first_unreadable, entries_of, events_of, HasReplies};
 ghost use Rattle.journal_records.specs.Records.{BeginsWith};
-ghost use Rattle.journal_resume.specs.Ends.{IsEnd};
-ghost use Rattle.journal_resume.specs.Resume.{IsResumed};
+ghost use Rattle.journal_resume.specs.Ends.{IsLeft};
+ghost use Rattle.journal_resume.specs.Resume.{IsReadable, IsResumed};
 ghost use Rattle.journal_resume.specs.Refusals.{IsRecordReason, IsNextReason, IsReasonBehind};
 
 use crate::ends::is_end;
@@ -78,6 +78,7 @@ fn take_trace<A: Allocator + Copy>(
     number: u64,
     trace: &str,
 ) -> Result<(), ResumeFault>
+    ensures readable { OnOk result (first_unreadable trace.now ≡ None) }
     ensures book { OnOk result (book.new ≡ run_book book.old (events_of (entries_of trace.now))) }
     ensures replies { OnOk result (HasReplies trace.now
         (run_replies book.old (events_of (entries_of trace.now)))) }
@@ -101,6 +102,7 @@ pub(crate) fn take_record<A: Allocator + Copy>(
     taken: Record<'_>,
 ) -> Result<(), ResumeFault>
     ensures number { OnOk result (taken.entry.number ≡ number) }
+    ensures readable { OnOk result (IsReadable taken.entry.body.now) }
     ensures book { OnOk result (book.new ≡ run_book book.old (events_of (entries_of taken.entry.body.now))) }
     ensures replies { OnOk result (HasReplies taken.entry.body.now
         (run_replies book.old (events_of (entries_of taken.entry.body.now)))) }
@@ -119,7 +121,7 @@ pub(crate) fn take_record<A: Allocator + Copy>(
 /// The record that comes next, of this number; `None` at the end, and where a record was cut. `Damaged`, exactly elsewhere.
 fn next_record<'a>(octets: &'a [u8], number: u64) -> Result<Option<Record<'a>>, ResumeFault>
     ensures next { IfOk result (λ next. MatchOption next
-        (IsEnd octets.now)
+        (IsLeft octets.now)
         (λ r. BeginsWith octets.now r.number r.body.now r.behind.now)) }
     ensures reason { (b : State) → IfErr result (λ fault. IsNextReason fault b number octets.now) }
 {
@@ -130,10 +132,10 @@ fn next_record<'a>(octets: &'a [u8], number: u64) -> Result<Option<Record<'a>>, 
     }
 }
 
-/// The book to which the records of a journal lead, from the book with which it begins, reply by reply. The octets are all that stands behind
-/// the head, whose number is given. A record that was cut is left.
+/// The book to which the records of a journal lead, from the book with which it begins, reply by reply. The octets are all that
+/// stands behind the head, whose number is given. A record that was cut is left.
 ///
-/// A fault has the number of the first record that can't be taken.
+/// A fault has the number of the first record that can't be taken: all before it can.
 pub(crate) fn follow_records<'a, A: Allocator + Copy>(
     alloc: A,
     opening: Book<A>,

@@ -1,25 +1,15 @@
 //! The text of a trace, which may be a journal's file.
 use crate::files::text_of;
-use journal_records::{FileFault, behind_first_line, first_record};
-use journal_resume::{WholeFault, whole_octets};
+use journal_records::{behind_first_line, first_record};
+use journal_resume::{WholeFault, trace_octets};
 use run_listeners::LabFault;
 use screen_text::Escaped;
 use std::io::Write;
 use std::rt::Files;
 
-/// By this the text of a journal's file begins.
-const JOURNAL: &str = "gofnild journal ";
-
 /// How much of a text is a trace: of a journal's file all but a record at its end that was cut.
-fn whole_length(text: &str) -> Result<usize, WholeFault> {
-    if !text.starts_with(JOURNAL) {
-        return Ok(text.len());
-    }
-    match whole_octets(text.as_bytes()) {
-        Ok(whole) => Ok(whole.len()),
-        Err(WholeFault::File(FileFault::NotAJournal)) => Ok(text.len()),
-        Err(fault) => Err(fault),
-    }
+fn trace_length(text: &str) -> Result<usize, WholeFault> {
+    Ok(trace_octets(text.as_bytes())?.len())
 }
 
 /// The text behind the head of a journal's file, and how many of its lines stand before that. Of another trace it is all.
@@ -64,7 +54,7 @@ pub(crate) fn trace_of<R: Files + AllocGlobal, W: Write, E: Write>(
     if text.starts_with("\u{feff}") {
         return refuse_marked(path, out, errors);
     }
-    match whole_length(&text) {
+    match trace_length(&text) {
         Ok(length) if length == text.len() => Ok(Some(text)),
         Ok(length) => {
             let whole = text.get(..length).unwrap_or("");

@@ -3,7 +3,7 @@ use Rattle.std.proofs.lemmas.Result.{IfOk-weaker, IfErr-weaker}
 use Rattle.radio_book.specs.State.{empty_book}
 use Rattle.journal_records.specs.Records.{BeginsWith}
 use Rattle.journal_resume.specs.Refusals.{IsNextReason}
-use Rattle.journal_resume.proofs.Steps.{whole}
+use Rattle.journal_resume.proofs.Steps.{whole_journal, uncut_front}
 use Rattle.journal_resume.proofs.Refused.{handed_on, kind_reason, head_reason, record_reason, reason_at_head, reason_behind_head, file_reason}
 use Rattle.journal_resume.proofs.journal.resume.Goals as goal
 
@@ -36,12 +36,19 @@ returns g c =
     let head = c.in_ok-head.head in
     record {
       journal = IfOk-weaker c.follow_records.result _ _
-          (λ r resumed. whole c.args.site_sum c.args.site.value c.args.octets.now records head.behind.now c.args.number head.body.now
+          (λ r resumed. whole_journal c.args.site_sum c.args.site.value c.args.octets.now records head.behind.now c.args.number head.body.now
           c.in_ok-opening.opening r.book r.last r.left.now c.in-Ok.ensures.line c.in_ok-head.ensures.head
-          (c.in_ok-is_of_site.ensures.0 c.if-not-branch.false) c.in_ok-opening.ensures.book c.in_ok-opening.ensures.replies resumed)
+          (c.in_ok-is_of_site.ensures.0 c.if-not-branch.false) c.in_ok-opening.ensures.book c.in_ok-opening.ensures.readable c.in_ok-opening.ensures.replies resumed)
+          c.follow_records.ensures.resumed;
+      whole = IfOk-weaker c.follow_records.result _ _
+          (λ r resumed. uncut_front c.args.site_sum c.args.site.value c.args.number c.args.octets.now r.book r.last r.left.now
+          (whole_journal c.args.site_sum c.args.site.value c.args.octets.now records head.behind.now c.args.number head.body.now
+          c.in_ok-opening.opening r.book r.last r.left.now c.in-Ok.ensures.line c.in_ok-head.ensures.head
+          (c.in_ok-is_of_site.ensures.0 c.if-not-branch.false) c.in_ok-opening.ensures.book c.in_ok-opening.ensures.readable c.in_ok-opening.ensures.replies resumed))
           c.follow_records.ensures.resumed;
       reason = IfErr-weaker c.follow_records.result _ _
           (λ why behind. file_reason why c.args.site_sum c.args.site.value c.args.number c.args.octets.now records c.in-Ok.ensures.line
-          (reason_behind_head why (empty_book c.args.site.value) c.in_ok-opening.opening c.args.number records head.body.now head.behind.now c.in_ok-head.ensures.head c.in_ok-opening.ensures.book behind))
+          (reason_behind_head why (empty_book c.args.site.value) c.in_ok-opening.opening c.args.number records head.body.now head.behind.now c.in_ok-head.ensures.head
+          c.in_ok-opening.ensures.book c.in_ok-opening.ensures.readable c.in_ok-opening.ensures.replies behind))
           c.follow_records.ensures.reason;
     }

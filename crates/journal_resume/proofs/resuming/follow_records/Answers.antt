@@ -1,7 +1,16 @@
-use Rattle.std.proofs.Common.{inr, refl, arith}
-use Rattle.journal_resume.proofs.Steps.{read_more, one_more}
-use Rattle.journal_resume.proofs.Refused.{handed_on, record_reason, reason_so_far, counted_length}
+use Rattle.std.proofs.Common.{◌≡◌, ◌+◌, ◌^◌, inr, refl, arith}
+use Rattle.std.proofs.lemmas.Grind.{common_steps}
+use Rattle.journal_resume.proofs.Steps.{none_yet, read_more, one_more}
+use Rattle.journal_resume.proofs.Refused.{handed_on, record_reason, reason_so_far, no_number_behind}
 use Rattle.journal_resume.proofs.resuming.follow_records.Goals as goal
+
+pub returns-in_default-clause-reason : goal.returns-in_default-clause-reason
+returns-in_default-clause-reason g c =
+    let highest : c.args.number + 1 ≡ 2 ^ 64 = grind (arith, common_steps) in
+    no_number_behind c.args.opening c.args.number c.args.octets.now highest
+
+pub loop-next-init : goal.loop-next-init
+loop-next-init g c = record { so_far = none_yet c.args.opening c.args.number c.args.octets.now; next = grind (arith, common_steps) }
 
 pub loop-next-preserved : goal.loop-next-preserved
 loop-next-preserved g c =
@@ -14,7 +23,7 @@ loop-next-preserved g c =
           c.loop-next.next taken.body.now taken.behind.now c.take_record.new.book
           c.loop-next.invariant.so_far
           (read_more left taken.number c.loop-next.next taken.body.now taken.behind.now begins c.in_ok-take_record.ensures.number)
-          c.loop-next.invariant.next c.in_ok-take_record.ensures.book c.in_ok-take_record.ensures.replies;
+          c.loop-next.invariant.next c.in_ok-take_record.ensures.readable c.in_ok-take_record.ensures.book c.in_ok-take_record.ensures.replies;
       next = refl;
     }
 
@@ -40,5 +49,5 @@ returns-in_err-take_record-clause-reason g c =
 pub returns-clause-reason : goal.returns-clause-reason
 returns-clause-reason g c =
     let so_far = c.loop-next.invariant.so_far in
-    let counted = counted_length c.args.number so_far.records c.loop-next.resumed.last so_far.counted in
-    (so_far.records, c.loop-next.resumed.left.now, so_far.text, inr (refl, omega (arith, c.loop-next-test.false, c.loop-next.invariant.next, counted)))
+    let last = so_far.last_number in
+    (so_far.records, c.loop-next.resumed.left.now, so_far.text, so_far.taken, inr (refl, omega (arith, c.loop-next-test.false, c.loop-next.invariant.next, last)))

@@ -4,7 +4,7 @@ use Rattle.journal_files.proofs.Spans.{none_goes, one_goes}
 use Rattle.journal_files.proofs.journal.Journal.remove_old.Goals as goal
 
 pub loop-number-init : goal.loop-number-init
-loop-number-init g c = record { spans = none_goes (spans_of c.args.self.now); file = refl; last = refl; waiting = refl; keep = refl }
+loop-number-init g c = record { spans = none_goes (spans_of c.args.self.now); file = refl; last = refl; waiting = refl; octets = refl; keep = refl }
 
 pub loop-number-preserved : goal.loop-number-preserved
 loop-number-preserved g c =
@@ -14,5 +14,6 @@ loop-number-preserved g c =
       file = before.file;
       last = before.last;
       waiting = before.waiting;
+      octets = before.octets;
       keep = before.keep;
     }
