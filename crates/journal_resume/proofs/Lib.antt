@@ -6,5 +6,3 @@ pub mod Steps
 pub mod Refused
 -- all records of some octets
 pub mod Fronts
--- which fault of a head comes of which
-pub mod Faults

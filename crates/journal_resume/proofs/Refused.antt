@@ -12,7 +12,7 @@ use Rattle.journal_records.specs.Files.{kind, first_line, Begins}
 use Rattle.journal_resume.specs.declared.resuming.ResumeFault.{ResumeFault}
 use Rattle.journal_resume.specs.declared.resuming.ResumeFault.TheVariants as fault
 use Rattle.journal_resume.specs.Heads.{BeginsWithLine}
-use Rattle.journal_resume.specs.Resume.{Numbered, records_text, events_in, IsReadable}
+use Rattle.journal_resume.specs.Resume.{records_text, events_in, IsReadable}
 use Rattle.journal_resume.specs.Refusals.{IsRecordReason, IsNextReason, IsReasonBehind, IsHeadReason, IsReason}
 use Rattle.journal_resume.proofs.Steps.{SoFar, none_taken, taken_in_front, led_in_front}
 

@@ -1,5 +1,5 @@
 //! A journal's file as a whole.
-ghost use Rattle.std.specs.Prelude.{◌≡◌, ◌↔◌, ◌++◌, ◌-◌, [], length, take, OnOk, IfOk, IfErr, IsTrue};
+ghost use Rattle.std.specs.Prelude.{◌≡◌, ◌↔◌, ◌-◌, [], length, take, IfOk, IfErr, IsTrue};
 ghost use Rattle.radio_book.specs.State.{empty_book};
 ghost use Rattle.radio_book.specs.Run.{run_book, run_replies};
 ghost use Rattle.trace_entries.specs.Entries.{entries_of, events_of, HasReplies};

@@ -1,5 +1,5 @@
 //! The book to which records lead, one behind another.
-ghost use Rattle.std.specs.Prelude.{◌≡◌, ◌+◌, None, OnOk, OnErr, IfOk, IfErr, MatchOption};
+ghost use Rattle.std.specs.Prelude.{◌≡◌, ◌+◌, None, OnOk, IfOk, IfErr, MatchOption};
 ghost use Rattle.radio_book.specs.State.{State};
 ghost use Rattle.radio_book.specs.Run.{run_book, run_replies};
 ghost use Rattle.trace_entries.specs.Entries.{first_unreadable, entries_of, events_of, HasReplies};
