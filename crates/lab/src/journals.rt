@@ -1,6 +1,4 @@
 //! The journal of a live controller: what is asked of it, and how it ended.
-ghost use Rattle.std.specs.Prelude.{IsOk, IfOk};
-
 use journal_files::{Lost, WhenLost};
 use journal_opening::Asked;
 use lab_words::JournalWords;
@@ -26,9 +24,7 @@ pub(crate) fn ended_journal<E: Write>(
     lacks_memory: bool,
     words: JournalWords<'_>,
     errors: &mut E,
-) -> Result<Result<(), LiveFault>, LabFault>
-    ensures ended { IfOk result (λ now. IsOk now → IsOk ended) }
-{
+) -> Result<Result<(), LiveFault>, LabFault> {
     if lacks_memory {
         return Ok(Err(LiveFault::NoMemory));
     }
