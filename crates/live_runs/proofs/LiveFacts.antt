@@ -15,7 +15,7 @@ use Rattle.live_runs.specs.declared.taking.Live.{Live}
 use Rattle.lab_script.specs.declared.script.Item.{Item}
 use Rattle.live_runs.specs.declared.line.Said.TheVariants as said
 use Rattle.live_runs.specs.Lines.{script_line, can_be_read, given_by, sim_by, sim_behind, items_from, Says}
-use Rattle.live_runs.specs.Live.{has_sim, StaysOrRests, FirstRests, Rests, PlaysWithRests, Goes, Takes, TakesFirst, TakesAll, Played}
+use Rattle.live_runs.specs.Live.{has_sim, history_of, IsShort, StaysOrRests, FirstRests, Rests, PlaysWithRests, Goes, Takes, TakesFirst, TakesAll, Played}
 use Rattle.live_runs.proofs.InputFacts.{from_first, none_from, long_unreadable, long_behind, unreadable_gives_none, unreadable_gives_none_by, sim_gives_none, sim_stays, other_gives, other_attaches_none}
 
 -- a desk that begins anew twice did so once
@@ -254,3 +254,11 @@ pub where_played : {A X E : Type 0} (sims : Bool) (b : State) (old : Option (Lis
     → OnOk r (TakesAll sims old s s') → OnOk r (IfSome old (λ octets. Played A b (items_from sims false octets)))
 where_played sims b old s s' (Ok x) opening peer sim h = all_played sims b old s s' opening peer sim h
 where_played sims b old s s' (Err f) opening peer sim h = tt
+
+-- a history that is short for none, or for so many entries, is short for these
+pub short_for : {A : Type 0} (n entries : ℕ) (course : Course A) → (n ≡ 0) ⊎ (n ≡ entries) → IsShort n course → IsShort entries course
+short_for n entries course (inr same) short = subst (λ k. IsShort k course) same short
+short_for n entries course (inl none) (inr empty) = inr empty
+short_for n entries course (inl none) (inl less) =
+    let fewer : length (history_of course) < 0 = subst (λ k. length (history_of course) < k) none less in
+    absurd (omega (arith, fewer))
