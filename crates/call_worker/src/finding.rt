@@ -13,6 +13,7 @@ use channel_fsm::ChanId;
 use exchange::{Inbound, Line, chan_of};
 use ho_procedure::shared::Shared;
 use ho_procedure::view::DeskView;
+use radio_book::ask::Ask;
 use radio_book::event::{Event, Reply};
 use radio_desk::desk::DeskFault;
 use rsl_messages::{Rsl, RslFault, decode};
@@ -70,8 +71,10 @@ fn ask_owner<R: Wait + Drop, A: Allocator + Copy>(
         (front.new ≡ front.old ++ asked) × IsOwnerNumber front.old cell chan asked number) }
     ensures kept { OnErr result (front.new ≡ front.old) }
 {
-    match front.judge(Event::Owner(chan)) {
-        Ok(receipt) => Ok(owner_or(cell, receipt.reply)),
+    match front.ask(Ask::Event(Event::Owner(chan))) {
+        Ok(Some(receipt)) => Ok(owner_or(cell, receipt.reply)),
+        // an event is always answered
+        Ok(None) => unreachable!(),
         Err(DeskFault::Foreign(_)) => Ok(usize::from(cell)),
         Err(DeskFault::NoMemory) => Err(AllocError),
     }
