@@ -8,6 +8,7 @@ use Rattle.cell_table.specs.SiteFile.{read_site}
 use Rattle.radio_book.specs.declared.event.Event.{Event}
 use Rattle.radio_book.specs.declared.event.Event.TheVariants.{Open}
 use Rattle.radio_book.specs.declared.event.Reply.{Reply}
+use Rattle.radio_book.specs.declared.facts.Milestone.TheVariants as milestone
 use Rattle.radio_book.specs.State.{State, empty_book}
 use Rattle.radio_book.specs.Run.{Leads}
 use Rattle.radio_desk.specs.Desk.{DeskState}
@@ -23,10 +24,10 @@ use Rattle.storms.specs.Trips.{trips_of}
 
 -- the figures are those of a desk: what its history tells, how many channels its book has in use, and its audit
 pub record AreOf (d : DeskState) (figures : Figures) : Type 0 where
-  pub calls : figures.tally.calls ≡ count_of (λ m. m.call) d.history
-  pub attempts : figures.tally.attempts ≡ count_of (λ m. m.attempt) d.history
-  pub completed : figures.tally.completed ≡ count_of (λ m. m.completed) d.history
-  pub undone : figures.tally.undone ≡ count_of (λ m. m.undone) d.history
+  pub calls : figures.tally.calls ≡ count_of milestone.Opened d.history
+  pub attempts : figures.tally.attempts ≡ count_of milestone.Began d.history
+  pub completed : figures.tally.completed ≡ count_of milestone.Completed d.history
+  pub undone : figures.tally.undone ≡ count_of milestone.Undone d.history
   pub channels : figures.channels ≡ map.len d.book.channels
   pub audit : IsAuditOf d figures.audit
 
