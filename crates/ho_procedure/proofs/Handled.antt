@@ -112,8 +112,3 @@ pub stopped_foreign : {A D X : Type 0} (log : D → List Entry) (says : D → Li
     → IfErr result (Stopped log says w IsRow CantBeRead MayRefuse w') → IfErr result (λ s. (place : ℕ) → s ≡ stop.Desk place → says w.view (log w'.view) (UnknownReceipt place))
 stopped_foreign log says w w' IsRow CantBeRead MayRefuse (Ok x) f = tt
 stopped_foreign log says w w' IsRow CantBeRead MayRefuse (Err s) f = λ place is. stops_unknown log says w IsRow w' place (subst (Stopped log says w IsRow CantBeRead MayRefuse w') is f)
-
-pub follow_width : {A D X : Type 0} (log : D → List Entry) (says : D → List Entry → Claim → Type 0) (w w' : Work D A) (IsRow : Plan → Type 0) (CantBeRead : Link → Bad → Type 0) (MayRefuse : Type 0) (result : Result X Stop)
-    → OnOk result ((p : Plan) × IsRow p × Goes log says w p w' (At Ends)) → IfErr result (Stopped log says w IsRow CantBeRead MayRefuse w') → w'.windows.width ≡ w.windows.width
-follow_width log says w w' IsRow CantBeRead MayRefuse (Ok x) ok err = width_kept log says w w' ok.0 (At Ends) ok.2
-follow_width log says w w' IsRow CantBeRead MayRefuse (Err s) ok err = stopped_width log says w IsRow CantBeRead MayRefuse w' s err

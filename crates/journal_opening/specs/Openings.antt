@@ -34,6 +34,6 @@ abbrev pub OpensBy : {R F D : Type 0} → (F → Option (List ℕ)) → (F → O
 OpensBy contents remaining sum site None j b = Begins contents sum site j b
 OpensBy contents remaining sum site (Some number) j b = (octets : List ℕ) × IsRead remaining octets × GoesOn contents sum site number octets j b
 
--- The same of a folder of which nothing is said.
+-- A journal opens so, whatever files the folder has: no clause says which these are.
 abbrev pub Opens : {R F D : Type 0} → (F → Option (List ℕ)) → (F → Option (List ℕ)) → ℕ → SiteView → Journal R F D → State → Type 0
 Opens contents remaining sum site j b = (last : Option ℕ) × OpensBy contents remaining sum site last j b

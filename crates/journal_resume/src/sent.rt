@@ -47,7 +47,7 @@ fn tell_one<W: Write>(out: &mut W, number: u64, body: &[u8]) -> io::Result<()>
     }
 }
 
-/// The same, if that line stands behind the one that was heard.
+/// Tells what was sent for one line, if that line stands behind the one that was heard.
 fn tell_unheard<W: Write>(out: &mut W, number: u64, body: &[u8], heard: u64) -> io::Result<()>
     ensures { OnOk result (Appends (W.contents out.old) (W.contents out.new) (spec.told_unheard heard number body.now)) }
 {

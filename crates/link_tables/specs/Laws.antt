@@ -130,8 +130,8 @@ abbrev pub HeardAwaits : Type 0
 HeardAwaits = (lchan : Lchan) (heard : Heard) (holder : Holder) →
     IsAwaited (heard_step lchan heard holder) (awaited lchan heard)
 
--- The same behind a turn, where there is a link; but where the book has the channel on, as no turn has it while a release is
--- awaited.
+-- Behind a turn none is kept or forgotten either, where there is a link; but where the book has the channel on, as no turn has it
+-- while a release is awaited.
 abbrev pub SettledAwaits : Type 0
 SettledAwaits = (lchan : Lchan) (before now : ChanState) (c : Circumstances) → c.has_link ≡ true → is_on now ≡ false →
     IsAwaited (settled_step lchan before now c) (awaits lchan)
