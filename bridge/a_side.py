@@ -7,15 +7,20 @@ import typing
 
 import bssmap
 from bssmap import Cause, Type
+from elements import IMSI, elements_in, imsi_in
 from link_layer import LONGEST, MAIN_SAPI, SHORT_SAPI
 from outgoing import OutgoingCalls
 from rtp import codec_of
-from tell import say
+from tell import Level, Since, say
 
 if typing.TYPE_CHECKING:
     from connections import Connections
     from m3ua import M3ua
 
+# After how many connections in a row that aren't answered the centre is taken for gone, and after how many RESET that aren't
+# acknowledged it is told why that may be.
+MOST_UNANSWERED, MOST_RESETS = 3, 3
+WRONG_NAMES = "where the centre runs, centre.own or centre.peer may be wrong, or with IPA centre.name, or a route of osmo-stp"
 # Of a DLCI the bits that have the service access point (TS 48.006, 9.3.2).
 SAPI = 0x07
 
@@ -28,10 +33,14 @@ class ASide:
         self.relay, self.times, self.seconds = relay, times, seconds
         self.connections: Connections | M3ua
         self.outgoing = OutgoingCalls(relay, times, seconds)
-        # whether both sides have begun anew: nothing begins before that
+        # whether both sides have begun anew: nothing begins before that; and since when that isn't so
         self.is_there = False
+        self.since = Since()
         self.is_up = False
-        self.counts = {"connections": 0, "handovers": 0, "resets": 0}
+        self.counts = {"connections": 0, "handovers": 0, "resets": 0, "doubts": 0, "cleared": 0}
+        # how often something was heard of the centre; how many connections in a row it didn't answer, while nothing was; and how
+        # often RESET was said in vain
+        self.sign = self.unanswered_in_a_row = self.resets_in_vain = 0
 
     # The link
 
@@ -43,21 +52,71 @@ class ASide:
 
     def down(self):
         """The link is lost: all calls end."""
-        say("A: the link is lost, and all calls end")
-        self.is_up = self.is_there = False
+        say("A: the link is lost, and all calls end", Level.ERROR)
+        self.is_up = False
         self.times.forget("t4")
         self.times.forget("t13")
-        self.end_calls(Cause.EQUIPMENT_FAILURE)
+        self.leave()
         self.connections.lost()
 
     def heard(self, octets):
         """A message of SCCP came."""
+        self.show_sign()
         self.connections.heard(octets)
 
     def reset(self):
         """Says RESET until it is acknowledged."""
         self.connections.unit_data(bssmap.reset())
-        self.times.set("t4", self.seconds["t4"], self.reset)
+        self.times.set("t4", self.seconds["t4"], self.reset_again)
+
+    def reset_again(self):
+        """RESET isn't acknowledged."""
+        self.resets_in_vain += 1
+        if self.resets_in_vain == MOST_RESETS:
+            say(f"A: RESET isn't acknowledged, {MOST_RESETS} times: {WRONG_NAMES}", Level.WARNING)
+        self.reset()
+
+    # Whether the centre is there
+
+    def leave(self):
+        """The centre isn't there any more: all calls end."""
+        if self.is_there:
+            self.is_there, self.since = False, Since()
+        self.end_calls(Cause.EQUIPMENT_FAILURE)
+
+    def show_sign(self):
+        """Something was heard of the centre."""
+        self.sign += 1
+        self.unanswered_in_a_row = 0
+
+    def unanswered(self, connection):
+        """The centre didn't answer a connection in time. One that is only slow says something else meanwhile; of one that says
+        nothing, several in a row are a sign that it has gone."""
+        if connection.sign != self.sign:
+            return
+        self.unanswered_in_a_row += 1
+        if self.unanswered_in_a_row >= MOST_UNANSWERED:
+            self.doubt(f"{MOST_UNANSWERED} connections in a row aren't answered, and nothing else is heard of it")
+
+    def doubt(self, why):
+        """The centre may have gone, though its link is there: both sides begin anew."""
+        if not self.is_there:
+            return
+        self.counts["doubts"] += 1
+        self.counts["cleared"] += (count := len(self.relay.talks.by_number))
+        say(f"A: the centre is away: {why}; calls that end: {count}", Level.ERROR)
+        self.unanswered_in_a_row = 0
+        self.leave()
+        self.reset()
+
+    def away(self):
+        """The network says that the centre can't be reached (N-PCSTATE, N-STATE: Q.711, 6.3)."""
+        self.doubt("the network says that it can't be reached")
+
+    def back(self):
+        """The network says that the centre can be reached again."""
+        if not self.is_there and self.is_up:
+            self.reset()
 
     def end_calls(self, value):
         """All calls end, those of operators too, and nobody is looked for."""
@@ -72,15 +131,16 @@ class ASide:
 
     def unit_data(self, octets):
         """A message of no connection came."""
+        self.show_sign()
         kind = bssmap.kind_of(octets)
         if kind == Type.RESET_ACKNOWLEDGE:
+            self.resets_in_vain = 0
             self.times.forget("t4")
             self.look()
         elif kind == Type.RESET:
-            say("A: the centre begins anew, and all calls end")
+            say("A: the centre begins anew, and all calls end", Level.WARNING)
             self.counts["resets"] += 1
-            self.is_there = False
-            self.end_calls(Cause.EQUIPMENT_FAILURE)
+            self.leave()
             self.times.set("t13", self.seconds["t13"], self.acknowledge)
         elif kind == Type.PAGING and self.is_there:
             self.relay.paging.asked(octets)
@@ -109,11 +169,13 @@ class ASide:
         if connection is None:
             return False
         self.counts["connections"] += 1
+        connection.sign = self.sign
         connection.call, call.connection = call, connection
         return True
 
     def asked(self, connection, octets):
         """The centre asks for a connection, as for a call that comes from another controller."""
+        self.show_sign()
         connection.call = None
         if not self.is_there or octets and bssmap.kind_of(octets) != Type.HANDOVER_REQUEST:
             self.relay.count("a connection that the centre asked for is refused")
@@ -132,11 +194,13 @@ class ASide:
         connection.call, call.connection = call, connection
         self.relay.arrivals.requested(call, octets)
 
-    def confirmed(self, connection):
+    def confirmed(self, _connection):
         """The centre took a connection."""
+        self.show_sign()
 
     def data(self, connection, octets):
         """A message on a connection came."""
+        self.show_sign()
         call = getattr(connection, "call", None)
         if found := bssmap.dtap_in(octets):
             self.data_for_mobile(call, *found)
@@ -155,9 +219,16 @@ class ASide:
             self.relay.ciphering.commanded(call, octets)
         elif kind == Type.CLASSMARK_REQUEST:
             self.relay.air.tell(call, bssmap.CLASSMARK_ENQUIRY)
+        elif call and kind == Type.COMMON_ID:
+            self.named(call, octets)
         elif kind not in bssmap.TOLD and (kind not in bssmap.ANSWERS or self.outgoing.takes(call, Type(kind))):
             call.is_clearing = call.is_clearing or kind == Type.CLEAR_COMMAND
             self.give(call, octets)
+
+    def named(self, call, octets):
+        """The centre says whose a call is (COMMON ID, TS 48.008, 3.2.1.68)."""
+        if imsi := imsi_in((elements_in(octets) or {}).get(IMSI)):
+            call.identity = f"IMSI {imsi}"
 
     def data_for_mobile(self, call, link, layer_3):
         """A message for a mobile came."""
@@ -182,7 +253,7 @@ class ASide:
             return
         call.connection = None
         if not call.is_over and not call.is_clearing:
-            say(f"A: {call}: its connection {why}")
+            say(f"A: {call}: its connection {why}", Level.WARNING)
         self.clear(call, Cause.CALL_CONTROL)
 
     def clear(self, call, value):

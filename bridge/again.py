@@ -13,7 +13,7 @@ import bssmap
 import rsl
 from calls import OFF, ON, PENDING, Event
 from journal import Journal, JournalError
-from tell import say, shown
+from tell import Level, Since, say, shown
 from watch import Watch
 
 # In how many seconds a controller may end so often, and how long it may take to go on over its journal, or to end for another.
@@ -27,8 +27,9 @@ PAUSE, LONGEST_PAUSE = 0.1, 10.0
 LASTING = 60.0
 # How many lines it may print before it goes on, which answer nothing.
 MOST_EARLY = 1000
-# What it says once it goes on.
+# What it says once it goes on; and where its journal is lost, and it goes on without one.
 RESUMED = re.compile(rb"resumed after line (\d+): .*")
+UNNOTED = re.compile(rb".*; the journal ends, and the controller goes on")
 
 
 class Upgrade:
@@ -56,6 +57,9 @@ class Again:
         self.bridge, self.relay, self.times = bridge, bridge.relay, bridge.times
         self.command, self.most = command, most
         self.journal = Journal.of(command)
+        # whether what comes of lines is noted in it; and since when it isn't
+        self.notes = self.journal is not None
+        self.lost_since: Since | None = None
         self.watch = Watch(bridge, hang)
         self.ended_at, self.count = [], 0
         # when it was started, and behind which line; how often in a row it then ended at once
@@ -77,6 +81,7 @@ class Again:
         self.relay.is_away = is_resuming
         self.begun_at, self.begun, self.early = time.monotonic(), self.relay.line, 0 if is_resuming else None
         self.watch.begin()
+        self.notes = self.journal is not None
         self.bridge.start_core(self.command)
         if is_resuming:
             self.times.set("resume", LONGEST, self.is_too_slow)
@@ -87,11 +92,13 @@ class Again:
 
     def is_too_slow(self):
         """It doesn't go on, or doesn't end, in time."""
-        say(f"the controller isn't ready in {LONGEST:g} seconds, and is killed")
+        say(f"the controller isn't ready in {LONGEST:g} seconds, and is killed", Level.ERROR)
         self.bridge.kill_core()
 
     def hears(self, line):
-        """Whether a line on standard error is that it goes on; it does then."""
+        """Whether a line on standard error is that it goes on; it does then. One may say that the journal is lost."""
+        if self.notes and UNNOTED.fullmatch(line):
+            self.notes, self.lost_since = False, Since()
         found = RESUMED.fullmatch(line)
         if not found or not self.times.is_set("resume"):
             return False
@@ -103,13 +110,13 @@ class Again:
             self.resume(int(found[1]))
         except JournalError as error:
             if self.upgrading:
-                say(f"{self.upgrading.program}: {error}, and is killed")
+                say(f"{self.upgrading.program}: {error}, and is killed", Level.ERROR)
                 self.bridge.kill_core()
             else:
                 self.fail(str(error))
         except OSError as error:
             # another time that may be possible, as where no file can be opened just now
-            say(f"the journal can't be read, and the controller is killed: {error}")
+            say(f"the journal can't be read, and the controller is killed: {error}", Level.ERROR)
             self.bridge.kill_core()
         return True
 
@@ -119,9 +126,9 @@ class Again:
             return False
         self.early += 1
         if self.early == 1:
-            say(f"before it goes on the controller prints: {shown(line)}")
+            say(f"before it goes on the controller prints: {shown(line)}", Level.WARNING)
         elif self.early == MOST_EARLY:
-            say(f"before it goes on the controller prints {MOST_EARLY} lines, and is killed")
+            say(f"before it goes on the controller prints {MOST_EARLY} lines, and is killed", Level.ERROR)
             self.bridge.kill_core()
         return True
 
@@ -160,6 +167,22 @@ class Again:
         if self.bridge.is_ending:
             self.bridge.finish_core()
 
+    # What operators are told
+
+    def away(self):
+        """That it isn't there, or answers nothing, as a line; none where all is well."""
+        if (since := self.relay.away_since) is not None:
+            return [f"controller: away since {since}; lines that wait: {len(self.relay.given)}"]
+        if since := self.watch.silent_since():
+            return [f"controller: answers nothing since {since}; lines that wait: {len(self.relay.given)}"]
+        return []
+
+    def known(self):
+        """What is known of it, in lines."""
+        journal = "noted" if self.notes else f"lost since {self.lost_since}" if self.lost_since else "there is none"
+        away = self.away() or ["controller: there"]
+        return [f"{away[0]}; started again: {self.count}; journal: {journal}"]
+
     # Its end
 
     def ended(self):
@@ -191,24 +214,24 @@ class Again:
 
     def go_on(self, why):
         """It has ended by itself, or can't be started, and is started again, unless that was too often."""
-        now = time.monotonic()
-        self.ended_at = [*(it for it in self.ended_at if it > now - PERIOD), now]
-        pause = self.pause(now)
+        at = time.monotonic()
+        self.ended_at = [*(it for it in self.ended_at if it > at - PERIOD), at]
+        pause = self.pause(at)
         if len(self.ended_at) > self.most or self.vain > self.most:
             say(why)
             often = f"{len(self.ended_at)} times in {PERIOD:g} seconds"
             self.fail(f"the controller has ended {often}, {self.vain} times in a row having done nothing")
             return
-        say(f"{why}, and is started again" + (f" in {pause:g} seconds" if pause else ""))
+        say(f"{why}, and is started again" + (f" in {pause:g} seconds" if pause else ""), Level.WARNING)
         self.count += 1
         if pause:
             self.times.set("again", pause, self.try_to_start)
         else:
             self.try_to_start()
 
-    def pause(self, now):
+    def pause(self, at):
         """How long is waited until it is started again. A bridge that ends doesn't wait."""
-        lasted = self.early is None and now - self.begun_at > LASTING and not self.relay.given
+        lasted = self.early is None and at - self.begun_at > LASTING and not self.relay.given
         if self.relay.line > self.begun or lasted:
             self.vain = 0
         self.vain += 1
@@ -254,7 +277,7 @@ class Again:
         """No controller can go on: the bridge ends, and not well."""
         self.has_failed = True
         if self.bridge.is_ending:
-            say(why)
+            say(why, Level.ERROR)
         self.end(why)
 
     def end(self, why):
@@ -338,7 +361,7 @@ class Again:
             relay.give(b"a %d %s" % (int(number), bssmap.clear_command(bssmap.Cause.EQUIPMENT_FAILURE).hex().encode()))
         relay.given.extend(given)
         if channels or calls:
-            say(f"calls of before are over: {len(calls)}, with {len(channels)} channels")
+            say(f"calls of before are over: {len(calls)}, with {len(channels)} channels", Level.WARNING)
 
     def answer(self, channel, message, elements):
         """Answers in the place of a station."""

@@ -1,5 +1,7 @@
 """Calls that begin on the air (TS 44.018, 3.3.1): a mobile asks for a channel, gets one for signalling and speech at once
 (very early assignment), and makes itself known; then its messages go to the centre, and the centre's to it."""
+import enum
+
 import access
 import bssmap
 import link_layer
@@ -17,6 +19,16 @@ MOST_KNOWN = 10_000
 MOST_WAITING = 64
 # A station's message that a mobile's radio link failed.
 LINK_FAILURE = b"\x1a\x01\x01"
+
+
+class Rejected(enum.Enum):
+    """Why a mobile that asks for a channel is rejected."""
+
+    NONE_FREE = "no channel is free"
+    STATION = "the station refuses the channel"
+    AWAITED = "too many mobiles are awaited"
+    NO_CENTRE = "the centre isn't there"
+    NO_NUMBER = "no number of a call is free"
 
 
 class Seizing(Operator):
@@ -61,6 +73,7 @@ class Air:
             station.pass_over("CHANNEL REQUIRED again")
         else:
             self.remember(station.cell, request.reference)
+            self.relay.tallies.requested(station.cell, request.cause)
             self.begin(station, request)
 
     def remember(self, cell, reference):
@@ -72,11 +85,14 @@ class Air:
 
     def begin(self, station, request):
         """A call begins, where the centre is there and not too many mobiles are awaited."""
-        call = None
-        if self.relay.a_side.is_there and self.relay.talks.awaited(station.cell) < self.most_awaited:
-            call = self.relay.talks.begin()
-        if call is None:
-            self.refuse(station, request)
+        if not self.relay.a_side.is_there:
+            self.refuse(station, request, Rejected.NO_CENTRE)
+            return
+        if self.relay.talks.awaited(station.cell) >= self.most_awaited:
+            self.refuse(station, request, Rejected.AWAITED)
+            return
+        if (call := self.relay.talks.begin()) is None:
+            self.refuse(station, request, Rejected.NO_NUMBER)
             return
         call.station, call.request, call.is_awaited = station, request, True
         self.seize(call, b"full", self.neci == 1 and request.cause.takes_half)
@@ -88,12 +104,13 @@ class Air:
 
     def reject(self, call):
         """A call gets no channel."""
-        self.refuse(call.station, call.request)
+        self.refuse(call.station, call.request, Rejected.NONE_FREE)
         self.relay.forget(call)
 
-    def refuse(self, station, request):
+    def refuse(self, station, request, reason):
         """Tells a mobile that it gets no channel, and for how long it is not to ask again."""
         station.pass_over("CHANNEL REQUIRED that was rejected")
+        self.relay.tallies.reject(station.cell, reason.value)
         self.send_common(station, access.rejection(request, round(min(self.seconds["t3122"], 255))))
 
     def activated(self, call):
@@ -104,7 +121,12 @@ class Air:
         cell = self.cells[channel.cell]
         description = access.described(channel, cell.carriers[channel.trx], cell.colours & 7)
         self.send_common(call.station, access.assignment(call.request, description))
-        self.times.set(("t3101", call.number), self.seconds["t3101"], lambda: self.drop(call), self.relay.once_read)
+        self.times.set(("t3101", call.number), self.seconds["t3101"], lambda: self.missed(call), self.relay.once_read)
+
+    def missed(self, call):
+        """The mobile that asked didn't make itself known in time."""
+        self.relay.tallies.expired(call.station.cell, "T3101")
+        self.drop(call)
 
     def drop(self, call):
         """A call of which the centre knows nothing ends."""
@@ -116,7 +138,7 @@ class Air:
     def refused(self, call):
         """The station refused the channel of a call: the mobile is told."""
         if call.is_awaited:
-            self.refuse(call.station, call.request)
+            self.refuse(call.station, call.request, Rejected.STATION)
             self.drop(call)
 
     def settle(self, call):
@@ -144,7 +166,7 @@ class Air:
             station.pass_over("ESTABLISH INDICATION that begins no call")
         else:
             self.settle(call)
-            self.relay.paging.hear(said.layer_3)
+            call.identity = self.relay.paging.hear(said.layer_3)
             if not self.relay.a_side.begin(call, self.cells[station.cell], said.layer_3):
                 self.drop(call)
 

@@ -13,6 +13,8 @@ from speech_request import Kind, Unserved, codec_on, wanted_by
 # channel's description (three octets) and the mode.
 MODE_MODIFY, MODE_MODIFY_ACKNOWLEDGE = b"\x06\x10", 0x17
 DESCRIPTION = 3
+# What is counted of an assignment: what became of it, and its kind where that wasn't read.
+COMPLETE, FAILURE, GIVEN_UP, UNREAD = "complete", "failure", "given up", "unread"
 
 
 class Mode(enum.IntEnum):
@@ -23,10 +25,10 @@ class Mode(enum.IntEnum):
 
 
 class Assignment:
-    """What the centre asked for, and the mode that the mobile was told, if it was."""
+    """What the centre asked for, on which channel the call was then, and the mode that the mobile was told, if it was."""
 
-    def __init__(self, wanted):
-        self.wanted = wanted
+    def __init__(self, wanted, channel):
+        self.wanted, self.channel = wanted, channel
         self.is_joining = False
         self.told = None
 
@@ -42,14 +44,19 @@ class Assignments:
         if call.is_over or call.is_clearing:
             self.relay.count("ASSIGNMENT REQUEST for a call that is over")
         elif call.assignment:
-            self.relay.a_side.send(call, failure(Cause.PROTOCOL_ERROR))
+            self.refuse(call, Cause.PROTOCOL_ERROR)
         else:
             try:
-                call.assignment = Assignment(wanted_by(message))
+                call.assignment = Assignment(wanted_by(message), self.relay.talks.serving(call))
             except Unserved as unserved:
-                self.relay.a_side.send(call, failure(unserved.cause))
+                self.refuse(call, unserved.cause)
                 return
             self.go_on(call)
+
+    def refuse(self, call, cause):
+        """What was asked for isn't begun."""
+        self.relay.tallies.assigned(self.relay.talks.serving(call), UNREAD, FAILURE, cause)
+        self.relay.a_side.send(call, failure(cause))
 
     def go_on(self, call):
         """Begins what was asked for, or tells the mobile on the channel that it has now. While the call moves it waits."""
@@ -100,6 +107,7 @@ class Assignments:
         """The mobile doesn't acknowledge. One that was sent away is told again where it comes to."""
         place = self.relay.talks.place(call)
         if place and not place.stage:
+            self.relay.tallies.expired(place.serving.cell, "T10")
             self.fail(call, Cause.RADIO_MESSAGE_FAILURE)
 
     def acknowledged(self, station, call, said):
@@ -117,7 +125,7 @@ class Assignments:
     def complete(self, call):
         """The mobile has the mode: the centre is told."""
         assignment = call.assignment
-        self.forget(call)
+        self.end(call, COMPLETE)
         call.mode = assignment.told
         if call.mode == Mode.SPEECH:
             self.relay.a_side.send(call, bssmap.message(Type.ASSIGNMENT_COMPLETE, *speech_elements(self.relay, call)))
@@ -130,7 +138,7 @@ class Assignments:
 
     def fail(self, call, cause):
         """What was asked for isn't to be had: the call goes on as it was."""
-        self.forget(call)
+        self.end(call, FAILURE, cause)
         if call.speech and call.mode != Mode.SPEECH:
             self.relay.media.drop(call)
         self.relay.a_side.send(call, failure(cause))
@@ -141,7 +149,14 @@ class Assignments:
             self.go_on(call)
 
     def forget(self, call):
-        """An assignment is over."""
+        """A call is over, or its mobile is elsewhere, and an assignment that it has, too."""
+        if call.assignment:
+            self.end(call, GIVEN_UP)
+
+    def end(self, call, outcome, cause=None):
+        """An assignment is over. It is counted where it was asked for."""
+        if it := call.assignment:
+            self.relay.tallies.assigned(it.channel, it.wanted.kind.name.lower(), outcome, cause)
         call.assignment = None
         self.times.forget(("t10", call.number))
 

@@ -17,8 +17,9 @@ from links import Links
 from log import Log
 from operators import QUIET, Client, Operator, Turns
 from relay import Relay
+from sites import traffic_channels
 from stream import Lines, Selector, Stream, Times
-from tell import ERRORS, OUTPUT, say, shown
+from tell import ERRORS, OUTPUT, Level, say, says_up_to, shown
 
 # How long the controller may take to end, in seconds.
 LAST = 30.0
@@ -38,13 +39,14 @@ class Bridge:
 
     def __init__(self, words, make_relay=Relay):
         """`words` are the settings: `stations`, `seconds`, `bind`, `port`, `log`, `control`, `figures`, `figures_every`,
-        `messages`, `again`, `hang`, and `core`, the controller's command. The controller and standard input are there once it has
-        started."""
+        `messages`, `again`, `hang`, `log_level`, and `core`, the controller's command. The controller and standard input are there
+        once it has started."""
         self.words = words
+        says_up_to(words.log_level)
         self.selector = Selector()
         self.times = Times()
         self.relay = make_relay(words.stations, self.times, words.seconds)
-        self.relay.tells_messages = words.messages
+        self.relay.tells_messages, self.relay.site = words.messages, traffic_channels(words.core)
         self.sockets = {}
         self.links = self.relay.links = Links(self.relay, self.close)
         self.clients: set[Client] = set()
@@ -95,7 +97,7 @@ class Bridge:
             self.relay.hear(line)
             return
         self.is_garbled = True
-        say(f"the controller prints what none does, and is killed: {shown(line)}")
+        say(f"the controller prints what none does, and is killed: {shown(line)}", Level.ERROR)
         self.kill_core()
 
     def core_unread(self):
@@ -115,7 +117,7 @@ class Bridge:
                 operator.refuse_torn(rest)
             self.operator.leave()
             if not self.control and not self.is_ending:
-                self.end("standard input has ended")
+                self.end("standard input has ended", Level.NOTICE)
 
         operator = Operator(self.relay, "operator at standard input")
         lines = Lines(lambda line: self.turns.add(operator, line))
@@ -138,7 +140,7 @@ class Bridge:
             except BlockingIOError:
                 pass
             except OSError as error:
-                say(f"nobody can connect now: {error}")
+                say(f"nobody can connect now: {error}", Level.ERROR)
                 self.selector.unregister(listener)
                 self.times.set(("listener", listener), QUIET, watch)
             except Exception as error:
@@ -160,7 +162,7 @@ class Bridge:
     def take_signal(self, number):
         """A signal came."""
         if number != signal.SIGHUP:
-            self.end(f"signal {number}")
+            self.end(f"signal {number}", Level.NOTICE)
         elif self.relay.log:
             self.relay.log.open_anew()
 
@@ -185,14 +187,14 @@ class Bridge:
         link.stream.leave()
         self.sockets.pop(link.stream).close()
 
-    def end(self, why):
-        """Ends the controller, and then all else. Asked for again, it kills the controller."""
+    def end(self, why, level=Level.ERROR):
+        """Ends the controller, and then all else. Asked for again, it kills the controller. The level is that of why it ends."""
         if self.is_ending:
             self.is_killed = True
             self.kill_core()
             return
         self.is_ending = True
-        say(f"ends: {why}")
+        say(f"ends: {why}", level)
         while self.listeners:
             listener = self.listeners.pop()
             if listener in self.selector.get_map():
@@ -211,7 +213,7 @@ class Bridge:
 
     def kill(self):
         """Kills a controller that doesn't end."""
-        say(f"the controller doesn't end in {LAST:g} seconds, and is killed")
+        say(f"the controller doesn't end in {LAST:g} seconds, and is killed", Level.ERROR)
         self.is_killed = True
         self.kill_core()
 
@@ -237,7 +239,7 @@ class Bridge:
         """The controller has ended. Half a line isn't heard: where it is started again, it comes again from its journal."""
         rest, is_untimely = lines.end(), self.relay.is_away or not self.is_ending or self.again.is_untimely()
         if rest and not (is_untimely and self.again.goes_on()):
-            say(f"the controller ended amid a line, which isn't heard: {shown(rest)}")
+            say(f"the controller ended amid a line, which isn't heard: {shown(rest)}", Level.WARNING)
         self.relay.core.close()
         self.relay.core = None
         if is_untimely:
@@ -391,7 +393,7 @@ def serve(make):
         bridge.start()
         status = bridge.run()
     except OSError as error:
-        say(f"can't begin: {error}")
+        say(f"can't begin: {error}", Level.ERROR)
         status = 2
     finally:
         if bridge and bridge.control:
@@ -402,6 +404,6 @@ def serve(make):
                 bridge.figures.finish()
     OUTPUT.finish(UNREAD)
     if OUTPUT.left_out:
-        say(f"standard output wasn't read: {OUTPUT.left_out} lines are left out")
+        say(f"standard output wasn't read: {OUTPUT.left_out} lines are left out", Level.WARNING)
     ERRORS.finish(UNREAD)
     return status

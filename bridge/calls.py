@@ -3,7 +3,7 @@ import dataclasses
 import re
 
 from rsl import Channel
-from tell import now
+from tell import Since
 
 # An event, what it is about, and the book's reply.
 EVENT = re.compile(r"event (\w+) (\S+)((?: \S+)*) -> (\w+)((?: \S+)*)")
@@ -43,7 +43,7 @@ class InUse:
 
     state: str
     call: str | None = None
-    since: str = dataclasses.field(default_factory=now)
+    since: Since = dataclasses.field(default_factory=Since)
 
 
 @dataclasses.dataclass

@@ -27,6 +27,8 @@ LINES = 100
 FILLING = 100
 # Times of day, which differ from run to run.
 SINCE = re.compile(r" since [0-9:]+")
+# What lines begin with that are about the controller itself: whether it is there, and how often it was started again.
+OF_CONTROLLER = "controller: "
 
 
 def program_that(room, name, text):
@@ -75,12 +77,13 @@ def settle(bridge):
 
 
 def told(bridge, *questions):
-    """What the bridge answers to questions, times aside."""
+    """What the bridge answers to questions, times and what it knows of the controller itself aside."""
     before = len(bridge.out.lines)
     for question in questions:
         bridge.ask(question)
     after = catch_up(bridge)
-    return [SINCE.sub("", line) for line in bridge.out.lines[before : after - 1]]
+    lines = bridge.out.lines[before : after - 1]
+    return [SINCE.sub("", line) for line in lines if not line.startswith(OF_CONTROLLER)]
 
 
 def book(log, program, site=SITE):

@@ -7,7 +7,7 @@ import sys
 import c_programs
 import core_network
 import m3ua
-from harness import LIMIT, LeftOut, Lines, Unmet, must
+from harness import FOLDER, LIMIT, LeftOut, Lines, Unmet, must, namespaces, needs
 
 # What the compiler finds fault with.
 STRICT = ("-Wall", "-Wextra", "-Werror")
@@ -33,6 +33,40 @@ says.shutdown(socket.SHUT_WR)
 room, about, flags = ctypes.create_string_buffer(4096), ctypes.create_string_buffer(256), ctypes.c_int()
 while (count := library.sctp_recvmsg(hears.fileno(), room, 4096, None, None, about, ctypes.byref(flags))) > 0:
     print(room.raw[:count].hex(), "stream", int.from_bytes(about.raw[:2], sys.byteorder), flush=True)
+"""
+
+
+# osmo-stp, an end that is watched, and another one that comes, goes, and comes again; the lines that the first prints.
+NETWORK = """
+import sys
+sys.dont_write_bytecode = True
+sys.path.insert(0, {folder!r})
+import pathlib, subprocess
+import core_network
+from harness import WITH_PARENT, Lines
+room = pathlib.Path(".").resolve()
+settings = core_network.preloaded(room)
+(room / "stp.cfg").write_text(core_network.TRANSFER_SETTINGS)
+log = open(room / "stp.log", "w")
+transfer = subprocess.Popen([*WITH_PARENT, "osmo-stp", "-c", "stp.cfg"], env=settings, stdout=log, stderr=log)
+core_network.await_port(4239)
+def begin(own, peer):
+    words, pipe = [{program!r}, core_network.TRANSFER, "2905", str(own), str(peer)], subprocess.PIPE
+    it = subprocess.Popen(words, env=settings, stdin=pipe, stdout=pipe, stderr=log, text=True)
+    return it, Lines(it.stdout)
+first, heard = begin(337, 185)
+heard.expect("^up$")
+for wanted in ("back", "away", "back"):
+    if wanted == "away":
+        other.kill()
+        other.wait()
+    else:
+        other, _ = begin(185, 337)
+    heard.expect(f"^{{wanted}}$")
+print(*heard.lines)
+for it in (first, other, transfer):
+    it.kill()
+    it.wait()
 """
 
 
@@ -68,6 +102,19 @@ def m3ua_is_compiled(_start, room, _program):
         must(it.wait(LIMIT) == 0 and it.stdout.read() == "", f"it ends with status {it.returncode}")
 
 
+def the_network_tells(_start, room, _program):
+    """osmo-stp tells m3ua.c, over the library, that a point code can't be reached any more, and that it can again. It needs osmo-stp,
+    and a namespace of networks."""
+    program = built(m3ua.build, room)
+    needs("osmo-stp", "osmo-stp")
+    needs("ip", "iproute2")
+    words = namespaces("--net")
+    (room / "it.py").write_text(NETWORK.format(folder=str(FOLDER), program=str(program)))
+    begin = [*words, "sh", "-c", "ip link set lo up && exec python3 it.py"]
+    ran = subprocess.run(begin, cwd=room, capture_output=True, text=True, timeout=2 * LIMIT)
+    must(ran.stdout.split() == ["up", "back", "away", "back"], f"it is told {ran.stdout}{ran.stderr}")
+
+
 def sctp_over_tcp_is_compiled(_start, room, _program):
     """sctp_over_tcp.c is compiled. Preloaded it carries messages of M3UA, which come one by one however they are sent; of one that is
     cut by the end nothing comes."""
@@ -93,4 +140,4 @@ def what_is_missing(_start, room, _program):
             raise Unmet(f"{text!r} is compiled")
 
 
-CHECKS = [m3ua_is_compiled, sctp_over_tcp_is_compiled, what_is_missing]
+CHECKS = [m3ua_is_compiled, the_network_tells, sctp_over_tcp_is_compiled, what_is_missing]

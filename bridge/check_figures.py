@@ -1,5 +1,4 @@
-"""Checks of the bridge: figures as OpenMetrics text, which a reader of the standard's grammar takes, and the services that
-examples/ has."""
+"""Checks of the bridge: figures as Prometheus' text, which a reader of its grammar takes, and the services that examples/ has."""
 import re
 import resource
 import subprocess
@@ -7,23 +6,23 @@ import time
 
 from harness import FIRST, FOLDER, LIMIT, SECOND, Asker, Unmet, must, needs
 from network_harness import begin, clear
-from openmetrics import COUNTER, GAUGE, Family, text_of
+from exposition import COUNTER, GAUGE, Family, text_of
 
-# The grammar of OpenMetrics 1.0.0 (its section 'Text format'), as far as counters and gauges need it.
+# The grammar of Prometheus' text format, version 0.0.4, as far as counters and gauges need it. In a line of help a quotation mark
+# stands for itself.
 NAME, LABEL = "[a-zA-Z_:][a-zA-Z0-9_:]*", "[a-zA-Z_][a-zA-Z0-9_]*"
-ESCAPED = r'(?:[^\\"\n]|\\[n"\\])*'
+ESCAPED, HELP = r'(?:[^\\"\n]|\\[n"\\])*', r"(?:[^\\\n]|\\[n\\])*"
 NUMBER = r"[+-]?\d+(?:\.\d*)?(?:[eE][+-]?\d+)?"
-ABOUT = re.compile(rf"# (TYPE|HELP|UNIT) ({NAME}) ({ESCAPED})")
+ABOUT = re.compile(rf"# (TYPE|HELP) ({NAME}) ({HELP})")
 SAMPLE = re.compile(rf'({NAME})(?:\{{({LABEL}="{ESCAPED}"(?:,{LABEL}="{ESCAPED}")*)?\}})? ({NUMBER})')
 PAIR = re.compile(rf'({LABEL})="({ESCAPED})"')
-# Where a counter's samples stand, and a gauge's.
-SUFFIXES = {"counter": "_total", "gauge": ""}
+TYPES = ("counter", "gauge")
 
 
 def samples_in(text):
-    """The samples of an OpenMetrics text: the number of each name with its labels."""
-    *lines, end, rest = text.split("\n")
-    must((end, rest) == ("# EOF", ""), f"it ends by {end!r}, {rest!r}")
+    """The samples of a text: the number of each name with its labels."""
+    *lines, rest = text.split("\n")
+    must(rest == "", f"it ends by {rest!r}")
     families, samples, current = {}, {}, None
     for line in lines:
         if about := ABOUT.fullmatch(line):
@@ -31,7 +30,7 @@ def samples_in(text):
             continue
         sample = SAMPLE.fullmatch(line)
         must(sample, f"no line of the grammar: {line!r}")
-        must(current and sample[1] == current + SUFFIXES[families[current]["TYPE"]], f"not of the family {current}: {line!r}")
+        must(sample[1] == current and {*families[current]} >= {"TYPE", "HELP"}, f"not of the family {current}: {line!r}")
         families[current]["begun"] = True
         labels = PAIR.findall(sample[2] or "")
         key = sample[1], tuple(sorted((name, unescaped(value)) for name, value in labels))
@@ -46,9 +45,8 @@ def describe(families, current, what, name, text):
     must(name == current or name not in families, f"the family {name} stands in two places")
     family = families.setdefault(name, {})
     must(what not in family and not family.get("begun"), f"{what} of {name} stands twice, or behind samples")
-    must(what == "TYPE" or "TYPE" in family, f"{name} has no type")
-    must(what != "TYPE" or text in SUFFIXES, f"{name} has the type {text!r}")
-    must(what != "UNIT" or name.endswith(f"_{text}"), f"{name} doesn't end by its unit {text!r}")
+    must(what != "TYPE" or text in TYPES, f"{name} has the type {text!r}")
+    must(text != "counter" or name.endswith("_total"), f"{name} is a counter")
     family[what] = text
     return name
 
@@ -81,7 +79,7 @@ def await_figure(path, value, name, **labels):
 
 
 def the_grammar(_start, _room, _program):
-    """The reader refuses what isn't OpenMetrics; what is written it takes, with whatever stands in labels."""
+    """The reader refuses what isn't of the grammar; what is written it takes, with whatever stands in labels and in help."""
     odd = 'a "name"\\ of\ntwo lines, = {}'
     family = Family("gofnild_odd", COUNTER, odd).add(1, what=odd, other="").add(2, what="b", other="")
     text = text_of([family, Family("gofnild_plain", GAUGE, "Plain.").add(3)])
@@ -91,11 +89,11 @@ def the_grammar(_start, _room, _program):
         ("gofnild_plain", ()): 3,
     }
     must(samples_in(text) == wanted, f"it reads {samples_in(text)}")
-    plain = "# TYPE a gauge\na 1\n# EOF\n"
+    plain = "# HELP a A.\n# TYPE a gauge\na 1\n"
     samples_in(plain)
-    wrong = [plain[:-1], plain[:-7], "\n" + plain, plain.replace("a 1", "a  1"), plain.replace("a 1", "b 1")]
+    wrong = [plain[:-1], plain[12:], "\n" + plain, plain.replace("a 1", "a  1"), plain.replace("a 1", "b 1")]
     wrong += [plain.replace("gauge", "counter"), plain.replace("a 1", "a 1\na 2"), plain.replace("a 1", 'a{b="\\x"} 1')]
-    wrong += [plain.replace("a 1", 'a{b="",b=""} 1'), "# TYPE b gauge\n" + plain.replace("# EOF", "b 1\n# TYPE a gauge\n# EOF")]
+    wrong += [plain.replace("a 1", 'a{b="",b=""} 1'), plain + plain.replace("a", "b") + "# TYPE a gauge\n"]
     must(not [it for it in wrong if is_read(it)], f"the reader takes {[it for it in wrong if is_read(it)]}")
 
 
@@ -120,7 +118,8 @@ def of_calls(start, room, _program):
         await_figure(path, sent, "gofnild_station_sent_messages_total", **who)
         await_figure(path, 1, "gofnild_station_channels", **who, state="on")
     await_figure(path, 1, "gofnild_station_passed_over_messages_total", **first, message="CCCH LOAD INDICATION")
-    await_figure(path, 2, "gofnild_channels", state="on")
+    for cell in ("0", "1"):
+        await_figure(path, 1, "gofnild_cell_channels", cell=cell, state="on")
     await_figure(path, 1, "gofnild_calls", attempt="internal")
     await_figure(path, 0, "gofnild_calls", attempt="none")
     await_figure(path, 5, "gofnild_read_lines_total")
@@ -144,7 +143,7 @@ def of_a_network(start, room, _program):
     number, connection = begin(run, station)
     await_figure(path, 1, "gofnild_calls_begun_on_air_total")
     await_figure(path, 1, "gofnild_calls", attempt="none")
-    await_figure(path, 0, "gofnild_awaited_mobiles")
+    await_figure(path, 0, "gofnild_cell_awaited_mobiles", cell="0")
     clear(run, station, number, connection)
     await_figure(path, 0, "gofnild_calls", attempt="none")
     run.centre.stop()

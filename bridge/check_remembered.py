@@ -11,6 +11,7 @@ from gateway import Gateway
 from harness import must
 from mgcp import Answer, Command, Verb
 from stations import Station
+from tallies import Tallies
 
 # How many requests are known again, and for how many seconds; for how many transactions that are over are (docs/NETWORK.md).
 REQUESTS, REQUESTS_FOR, TRANSACTIONS_FOR = 10_000, 5.0, 30.0
@@ -43,6 +44,7 @@ class Told:
 
     def __init__(self):
         self.a_side = types.SimpleNamespace(is_there=False)
+        self.tallies = Tallies(calls={})
         self.places, self.sent = {}, 0
 
     def pass_on(self, _station, _message):

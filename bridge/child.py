@@ -19,21 +19,20 @@ except (ImportError, OSError, AttributeError, MemoryError):
     pass
 
 
-def begin(command, said=None):
+def begin(command):
     """Begins a process with a group of its own; itself, and the ends of pipes: where it is given something, where it prints, and
-    where it says something on standard error, unless that is `said`. Where that can't be done nothing of it is left."""
+    where it says something on standard error. Where that can't be done nothing of it is left."""
     with contextlib.ExitStack() as opened:
         (given, writes), (reads, printed) = pipe(opened), pipe(opened)
-        errors, own = pipe(opened) if said is None else (None, said)
+        errors, own = pipe(opened)
         settings = {"start_new_session": True, "preexec_fn": with_parent(os.getpid())}
         process = subprocess.Popen([str(word) for word in command], stdin=given, stdout=printed, stderr=own, **settings)
         opened.pop_all()
-    for number in {given, printed, own} - {said}:
+    for number in (given, printed, own):
         os.close(number)
-    ends = [it for it in (writes, reads, errors) if it is not None]
-    for number in ends:
+    for number in (writes, reads, errors):
         os.set_blocking(number, False)
-    return process, *ends
+    return process, writes, reads, errors
 
 
 def pipe(opened):

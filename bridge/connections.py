@@ -1,14 +1,14 @@
 """Connections of SCCP, of class 2 (ITU-T Q.714, clause 3), and messages without one, over a link of messages.
 
-Who uses it is told by five methods: `unit_data(octets)`; `asked(connection, octets)`, which answers by `accept` or
-`refuse`; `confirmed(connection)`; `data(connection, octets)`; `ended(connection, why)`, once, however a connection ends,
-but where the user released it himself.
+Who uses it is told by six methods: `unit_data(octets)`; `asked(connection, octets)`, which answers by `accept` or `refuse`;
+`confirmed(connection)`; `data(connection, octets)`; `ended(connection, why)`, once, however a connection ends, but where the
+user released it himself; and before that `unanswered(connection)`, where the other side didn't answer it.
 """
 import enum
 
 import sccp
 from sccp import Message, Type
-from tell import Sayings
+from tell import Level, Sayings
 
 # How many connections there may be at once; one more is refused.
 MOST = 10_000
@@ -29,6 +29,8 @@ class Connection:
     def __init__(self, own, state, other=None):
         self.own, self.state, self.other = own, state, other
         self.waiting = []
+        # what the user notes of it as it asks for it
+        self.sign = 0
 
     def __str__(self):
         return f"connection {self.own:06x}"
@@ -58,7 +60,7 @@ class Connections:
 
     def say(self, text):
         """Says something of the other side, unless too much was said of it."""
-        self.sayings.say("A", f"A: {text}")
+        self.sayings.say("A", f"A: {text}", Level.WARNING)
 
     # What the user asks
 
@@ -79,8 +81,13 @@ class Connections:
             connection.waiting.append(octets)
         fields = {"source": connection.own, "class": sccp.CONNECTION_ORIENTED}
         self.put(Type.CONNECTION_REQUEST, fields, {"called": sccp.address()}, options)
-        self.arm(connection, "connect", lambda: self.end(connection, "isn't answered"))
+        self.arm(connection, "connect", lambda: self.unanswered(connection))
         return connection
+
+    def unanswered(self, connection):
+        """The other side doesn't answer."""
+        self.user.unanswered(connection)
+        self.end(connection, "isn't answered")
 
     def accept(self, connection):
         """Takes a connection that the other side asked for."""
@@ -224,6 +231,8 @@ class Connections:
 
     def end(self, connection, why):
         """A connection has ended, which the user hears where he didn't release it."""
+        if connection.own not in self.known:
+            return
         was_released = connection.state is State.RELEASING
         self.forget(connection)
         if not was_released:

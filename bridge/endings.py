@@ -12,11 +12,11 @@ import rsl
 class Endings:
     """The channels whose mobiles are sent away."""
 
-    def __init__(self, times, seconds, release, gate):
+    def __init__(self, times, seconds, release, gate, expired):
         """`seconds` has how long T3109 and T3111 run. `release` is told a station and the number of a channel that the station
-        is to release; `gate` lets a timer's end wait for what lies unread."""
+        is to release; `gate` lets a timer's end wait for what lies unread; `expired` is told the cell in which T3109 ran out."""
         self.times, self.seconds = times, seconds
-        self.release, self.gate = release, gate
+        self.release, self.gate, self.expired = release, gate, expired
         # By station and number of a channel, whether its RF CHANNEL RELEASE is kept back; and on which the mobile has left.
         self.kept = {}
         self.left = set()
@@ -29,8 +29,14 @@ class Endings:
     def start(self, station, number, timer):
         """Starts a timer of the channel."""
         self.times.set(
-            ("ending", station.unit, number), self.seconds[timer.lower()], lambda: self.end(station, number), self.gate
+            ("ending", station.unit, number), self.seconds[timer.lower()], lambda: self.run_out(station, number, timer), self.gate
         )
+
+    def run_out(self, station, number, timer):
+        """A timer of the channel has run out. That is the course of T3111, and not that of T3109."""
+        if timer == "T3109":
+            self.expired(station.cell, timer)
+        self.end(station, number)
 
     def keeps(self, station, number):
         """Whether RF CHANNEL RELEASE, which the controller sends now, is kept back."""

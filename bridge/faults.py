@@ -4,7 +4,7 @@ bridge: what it knows may be wrong then (bridge.py)."""
 import pathlib
 import traceback
 
-from tell import Sayings
+from tell import Level, Sayings
 
 # Whose octets, answers or lines are handled: a station's link, the centre's, the media gateway's, an operator's; or all else.
 STATION, CENTRE, GATEWAY, OPERATOR, BRIDGE = PLACES = ("station", "centre", "gateway", "operator", "bridge")
@@ -28,4 +28,5 @@ class Faults:
     def tell(self, place, who, error, then):
         """A fault was met while something of somebody was handled; what is done then is told, too."""
         self.counts[place] += 1
-        self.sayings.say(place, f"{who}: a fault of the bridge, {type(error).__name__} at {met_at(error)} ({error}): {then}")
+        met = f"a fault of the bridge, {type(error).__name__} at {met_at(error)} ({error})"
+        self.sayings.say(place, f"{who}: {met}: {then}", Level.ERROR)

@@ -5,12 +5,12 @@ import os
 import stat
 import time
 
-from openmetrics import COUNTER, GAUGE, Family, text_of
+from cell_figures import of_cells, of_cells_of_network
+from exposition import COUNTER, GAUGE, Family, text_of
 from stations import STATES
-from tell import OUTPUT, say
+from tell import OUTPUT, Level, say
 
-# Between which states of channels, and which attempts of calls, figures tell; so that each is there also where it is 0.
-CHANNELS = ("held", "pending", "on", "off")
+# Between which attempts of calls figures tell; so that each is there also where it is 0.
 ATTEMPTS = ("none", "internal", "incoming", "outgoing")
 
 
@@ -38,7 +38,7 @@ class FiguresFile:
             if is_first and error.errno not in (errno.ENOSPC, errno.EDQUOT):
                 raise
             if not self.is_failing:
-                say(f"{self.path}: the figures can't be written now: {error}")
+                say(f"{self.path}: the figures can't be written now: {error}", Level.ERROR)
             self.is_failing = True
         else:
             if self.is_failing:
@@ -71,7 +71,7 @@ class FiguresFile:
 def written():
     """When the figures were written: by it one sees those of a bridge that was killed, or hangs."""
     name = "gofnild_written_timestamp_seconds"
-    return Family(name, GAUGE, "When these figures were written, since 1970.", "seconds").add(f"{time.time():.3f}")
+    return Family(name, GAUGE, "When these figures were written, since 1970.").add(f"{time.time():.3f}")
 
 
 def family_of(name, kind, text, label, counts):
@@ -89,7 +89,14 @@ def of_stations(relay):
     again = Family("gofnild_controller_restarts", COUNTER, "How often the controller was started again.").add(relay.again.count)
     text = "Faults of the bridge itself, by whose octets, answers or lines were handled then."
     met = family_of("gofnild_faults", COUNTER, text, "place", relay.faults.counts)
-    return [up, again, *of_links(relay), *of_book(relay), *of_lines(relay), left_out.add(OUTPUT.left_out), met]
+    own = [up, again, *of_journal(relay), left_out.add(OUTPUT.left_out), met]
+    return [*own, *of_links(relay), *of_book(relay), *of_lines(relay), *of_cells(relay)]
+
+
+def of_journal(relay):
+    """Whether the controller's journal is written; there is no figure where the controller was begun without one."""
+    up = Family("gofnild_journal_up", GAUGE, "Whether the controller notes what comes of lines in its journal.")
+    return [up.add(int(relay.again.notes)) if relay.again.journal else up]
 
 
 def of_links(relay):
@@ -117,14 +124,10 @@ def of_links(relay):
 
 
 def of_book(relay):
-    """The calls and the channels of the radio book, as its events tell them."""
-    states = collections.Counter(used.state for used in relay.calls.channels.values())
+    """The calls of the radio book, as its events tell them."""
     attempts = collections.Counter(call.kind or "none" for call in relay.calls.calls.values())
     lost = Family("gofnild_calls_on_lost_channels", GAUGE, "Calls whose channel is lost.")
     return [
-        family_of(
-            "gofnild_channels", GAUGE, "Channels in use, by their state in the book.", "state", {it: states[it] for it in CHANNELS}
-        ),
         family_of("gofnild_calls", GAUGE, "Calls, by their attempt at handover.", "attempt", {it: attempts[it] for it in ATTEMPTS}),
         lost.add(len(relay.lost.lost)),
     ]
@@ -149,21 +152,21 @@ def of_lines(relay):
 
 def of_network(relay):
     """What a network has beside: the centre, calls, and speech."""
-    side, talks = relay.a_side, relay.talks.by_number.values()
+    side = relay.a_side
     up = Family("gofnild_centre_link_up", GAUGE, "Whether the link to the centre is there.").add(int(side.is_up))
     there = Family("gofnild_centre_up", GAUGE, "Whether the centre and this side have both begun anew.").add(int(side.is_there))
-    awaited = Family("gofnild_awaited_mobiles", GAUGE, "Calls that await their mobile.")
     texts = {
         "connections": ("gofnild_calls_begun_on_air", "Calls that began on the air."),
         "handovers": ("gofnild_calls_come_by_handover", "Calls that came from another controller."),
         "resets": ("gofnild_centre_resets", "How often the centre began anew."),
+        "doubts": ("gofnild_centre_doubts", "How often the centre was taken for gone, though its link was there."),
+        "cleared": ("gofnild_calls_cleared_in_doubt", "Calls that ended since the centre was taken for gone."),
     }
     counted = [Family(*texts[name][:1], COUNTER, texts[name][1]).add(count) for name, count in side.counts.items()]
     passed = family_of(
         "gofnild_centre_passed_over", COUNTER, "What the centre sent that nobody takes.", "what", dict(sorted(relay.passed.items()))
     )
-    awaited.add(sum(talk.is_awaited for talk in talks))
-    return [up, there, awaited, *counted, passed, *of_paging(relay), *of_speech(relay)]
+    return [up, there, *counted, passed, *of_paging(relay), *of_speech(relay), *of_cells_of_network(relay)]
 
 
 def of_paging(relay):

@@ -8,7 +8,7 @@ import typing
 import faults
 import mgcp
 from mgcp import Command, Verb
-from tell import Sayings
+from tell import Level, Sayings
 
 # For how many seconds the number of a transaction that is over is remembered: longer than an answer may be under way (T-HIST).
 REMEMBERED = 30.0
@@ -180,7 +180,7 @@ class Gateway:
 
     def say(self, text):
         """Says something of the gateway, unless too much was said of it."""
-        self.sayings.say("gateway", f"{self}: {text}")
+        self.sayings.say("gateway", f"{self}: {text}", Level.WARNING)
 
     def known(self):
         """What is known of it, in one line."""

@@ -9,7 +9,7 @@ import socket
 import faults
 import ipa
 from stream import Stream
-from tell import say
+from tell import Level, say
 
 # The stream of SCCP, and what a unit without a number says that it is.
 SCCP, NO_UNIT = 0xFD, "0/0/0"
@@ -24,12 +24,13 @@ class IpaClient:
         self.faults = met
         self.socket: socket.socket | None = None
         self.stream: Stream | None = None
-        self.is_ready = self.is_left = False
+        # whether both sides have acknowledged, whether this side has said its name, and whether it is closed for good
+        self.is_ready = self.is_named = self.is_left = False
         self.frames = ipa.Frames()
 
     def start(self):
         """Opens it; where that fails, again after a while."""
-        self.frames, self.is_ready = ipa.Frames(), False
+        self.frames, self.is_ready, self.is_named = ipa.Frames(), False, False
         try:
             family, kind, protocol, _, address = socket.getaddrinfo(
                 self.centre.address, self.centre.port, type=socket.SOCK_STREAM
@@ -106,6 +107,7 @@ class IpaClient:
         if kind == ipa.PING:
             self.put(ipa.OWN, ipa.PONG)
         elif kind == ipa.IDENTITY_REQUEST:
+            self.is_named = True
             self.put(ipa.OWN, self.identity(message))
         elif kind == ipa.ACKNOWLEDGEMENT and not self.is_ready:
             self.put(ipa.OWN, ipa.ACKNOWLEDGEMENT)
@@ -143,17 +145,18 @@ class IpaClient:
 
     def lose(self, why):
         """It is lost, or doesn't come up: it is tried again."""
-        was_ready = self.is_ready
+        was_ready, was_named = self.is_ready, self.is_named
         self.close()
         if not self.is_left:
-            say(f"A: no link to {self.centre.address}, port {self.centre.port}: {why}")
+            reason = f"; does osmo-stp know an as {self.centre.name!r} (centre.name)?" if was_named and not was_ready else ""
+            say(f"A: no link to {self.centre.address}, port {self.centre.port}: {why}{reason}", Level.ERROR)
             self.later(self.seconds["retry"], self.start)
         if was_ready:
             self.user.down()
 
     def close(self):
         """Closes it."""
-        self.is_ready = False
+        self.is_ready = self.is_named = False
         self.times.forget("centre")
         if self.stream:
             self.stream.leave()

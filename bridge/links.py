@@ -3,7 +3,7 @@ import collections
 
 import faults
 import ipa
-from tell import Sayings
+from tell import Level, Sayings
 
 # How many frames of a link are handled before others have their turn.
 MOST_FRAMES = 64
@@ -103,9 +103,9 @@ class Link:
         self.be_patient()
         self.send(ipa.OWN, ipa.identity_request())
 
-    def say(self, text):
+    def say(self, text, level=Level.NOTICE):
         """Says something of it."""
-        self.links.sayings.say(self.station.unit if self.station else self.address, f"{self.station or self.peer}: {text}")
+        self.links.sayings.say(self.station.unit if self.station else self.address, f"{self.station or self.peer}: {text}", level)
 
     def contain(self, action):
         """Does something of it. A fault of the bridge there ends this link alone."""
@@ -133,7 +133,7 @@ class Link:
 
     def refuse(self, why):
         """Closes the link of a stranger."""
-        self.say(f"{why}, the link is closed")
+        self.say(f"{why}, the link is closed", Level.WARNING)
         self.close()
 
     def send(self, stream, message):
@@ -310,7 +310,7 @@ class Link:
 
     def fail(self, why):
         """The link of a station is closed."""
-        self.say(f"{why}, the link is closed")
+        self.say(f"{why}, the link is closed", Level.WARNING)
         self.ended()
 
     def ended(self):

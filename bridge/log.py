@@ -4,7 +4,7 @@ import os
 import stat
 import time
 
-from tell import say
+from tell import Level, say
 
 # How many octets may wait for room on a disk that is full.
 MOST_WAITING = 1 << 20
@@ -41,7 +41,7 @@ class Log:
         if self.is_file():
             os.fchmod(self.file, 0o600)
             if torn := self.cut(os.fstat(self.file).st_size):
-                say(f"{self.path}: its last line has no line feed: {torn} octets are cut off")
+                say(f"{self.path}: its last line has no line feed: {torn} octets are cut off", Level.WARNING)
         self.note("the log begins, or goes on, here")
 
     def open_anew(self):
@@ -96,7 +96,7 @@ class Log:
                 self.write_piece()
         except OSError as error:
             if not self.is_full:
-                say(f"{self.path}: the log can't be written now: {error}")
+                say(f"{self.path}: the log can't be written now: {error}", Level.ERROR)
             self.is_full = True
             self.times.set("log", AGAIN, self.flush)
             return
@@ -124,5 +124,6 @@ class Log:
         self.times.forget("log")
         self.flush()
         if self.waiting:
-            say(f"{self.path}: {len(self.waiting)} octets of the log aren't written, lines that are missing: {self.missing}")
+            octets = len(self.waiting)
+            say(f"{self.path}: {octets} octets of the log aren't written, lines that are missing: {self.missing}", Level.ERROR)
         os.close(self.file)

@@ -8,7 +8,7 @@ again: the message is given again. Where there is no centre, such calls can be c
 import dataclasses
 
 import rsl
-from tell import now, say
+from tell import Level, Since, say
 
 # The type of CLEAR REQUEST (TS 48.008 clause 3.2.2.1), behind a discriminator, 00, and a length.
 CLEAR_REQUEST = 0x22
@@ -18,7 +18,7 @@ CLEAR_REQUEST = 0x22
 class Lost:
     """A call whose channel is lost."""
 
-    since: str = dataclasses.field(default_factory=now)
+    since: Since = dataclasses.field(default_factory=Since)
     # How often CLEAR REQUEST was sent; not yet while an attempt is open.
     asked: int = 0
 
@@ -39,7 +39,8 @@ class LostCalls:
         call = self.calls.calls.get(number)
         if call and call.serving == channel and call.kind and number not in self.lost:
             self.lost[number] = Lost()
-            say(f"call {number}: its channel {channel} is lost while it moves: that is told again at the attempt's end")
+            told = "that is told again at the attempt's end"
+            say(f"call {number}: its channel {channel} is lost while it moves: {told}", Level.WARNING)
 
     def follow(self, event):
         """An event was asked of the book, and followed by the calls."""
@@ -73,7 +74,8 @@ class LostCalls:
 
     def clear(self, number):
         """Clears a call, since nobody else does."""
-        say(f"call {number}: its channel is lost, and nobody has cleared it in {self.seconds['clear-lost']:g} seconds")
+        seconds = self.seconds["clear-lost"]
+        say(f"call {number}: its channel is lost, and nobody has cleared it in {seconds:g} seconds", Level.WARNING)
         self.relay.give(b"clear " + number.encode(), "bridge")
 
     def forget(self, number):

@@ -7,6 +7,7 @@
  *     unitdata HEX     connect ID HEX     accept ID     data ID HEX     release ID
  * Standard output:
  *     up               once messages can be sent
+ *     away     back    the centre can't be reached, or can again (N-PCSTATE, N-STATE)
  *     unitdata HEX     asked ID HEX       confirmed ID HEX     data ID HEX     ended ID CAUSE
  *
  * On a lost link no primitive comes, so the state is looked at. A process is a link: it ends with it.
@@ -57,6 +58,27 @@ static void tell(const char *what, const uint32_t *id, struct msgb *message)
 	fflush(stdout);
 }
 
+/* Tells whether the centre can be reached. */
+static void tell_state(bool is_there)
+{
+	printf("%s\n", is_there ? "back" : "away");
+	fflush(stdout);
+}
+
+/* Takes what is said of a point code. */
+static void heard_code(const struct osmo_scu_pcstate_param *state)
+{
+	if (state->affected_pc == peer.pc && state->sp_status != OSMO_SCCP_SP_S_CONGESTED)
+		tell_state(state->sp_status == OSMO_SCCP_SP_S_ACCESSIBLE);
+}
+
+/* Takes what is said of a subsystem. */
+static void heard_subsystem(const struct osmo_scu_state_param *state)
+{
+	if (state->affected_pc == peer.pc && state->affected_ssn == OSMO_SCCP_SSN_BSSAP)
+		tell_state(state->user_in_service);
+}
+
 /* Takes a primitive of SCCP. */
 static int heard(struct osmo_prim_hdr *header, void *context)
 {
@@ -81,6 +103,12 @@ static int heard(struct osmo_prim_hdr *header, void *context)
 			tell("data", &primitive->u.disconnect.conn_id, header->msg);
 		printf("ended %u %u\n", primitive->u.disconnect.conn_id, primitive->u.disconnect.cause);
 		fflush(stdout);
+		break;
+	case OSMO_PRIM(OSMO_SCU_PRIM_N_PCSTATE, PRIM_OP_INDICATION):
+		heard_code(&primitive->u.pcstate);
+		break;
+	case OSMO_PRIM(OSMO_SCU_PRIM_N_STATE, PRIM_OP_INDICATION):
+		heard_subsystem(&primitive->u.state);
 		break;
 	default:
 		break;
@@ -189,6 +217,7 @@ int main(int count, char **words)
 	}
 	osmo_init_logging2(NULL, &categories);
 	log_set_log_level(osmo_stderr_target, LOGL_ERROR);
+	log_set_use_color(osmo_stderr_target, 0);
 	osmo_ss7_init();
 	open_link(words[1], atoi(words[2]), strtoul(words[3], NULL, 10), strtoul(words[4], NULL, 10));
 	osmo_fd_setup(&input, STDIN_FILENO, OSMO_FD_READ, readable, NULL, 0);

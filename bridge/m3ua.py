@@ -12,13 +12,11 @@ import sccp
 from child import begin
 from connections import Connection, State
 from stream import Lines, Stream
-from tell import say
+from tell import Level, Sayings, say, shown
 
 LIBRARIES = ("-losmo-sigtran", "-losmocore", "-ltalloc")
 # Where the program counts from for connections that it is asked for; those that the other side asks for have smaller numbers.
 FIRST = 0x400000
-# Where the program says something, as the bridge does.
-STANDARD_ERROR = 2
 
 
 def build(folder, *words):
@@ -39,9 +37,12 @@ class M3ua:
         self.process: subprocess.Popen | None = None
         self.stream: Stream | None = None
         self.is_left = self.is_up = False
+        self.sayings = Sayings(times)
         self.known, self.next = {}, FIRST
         self.takers: dict[str, typing.Callable] = {
             "up": self.up,
+            "away": lambda: self.user.away(),
+            "back": lambda: self.user.back(),
             "unitdata": lambda octets: self.user.unit_data(octets),
             "asked": self.asked,
             "confirmed": self.confirmed,
@@ -56,14 +57,24 @@ class M3ua:
         self.program = self.program or build(self.folder.name)
         it = self.centre
         try:
-            self.process, writes, reads = begin([self.program, it.address, it.port, it.own, it.peer], STANDARD_ERROR)
+            self.process, writes, reads, errors = begin([self.program, it.address, it.port, it.own, it.peer])
         except OSError as error:
             self.lose(str(error))
             return
         lines = Lines(self.heard)
         self.stream = Stream(self.selector, reads, writes, lines.add, lambda: self.lose("the link ended"))
         self.stream.faulty = self.faulty
+        self.hear_errors(errors)
         self.times.set("centre", self.seconds["patience"], lambda: self.lose("the centre's link doesn't come up"))
+
+    def hear_errors(self, reads):
+        """What the program and its library say on standard error is said as what the bridge itself says."""
+
+        def hear(line):
+            if line.strip():
+                self.sayings.say("A", f"A: {shown(line)}", Level.WARNING)
+
+        stream: Stream = Stream(self.selector, reads, None, Lines(hear).add, lambda: stream.close())
 
     def faulty(self, error):
         """A fault of the bridge was met as a line of the program was handled: that is this link's end alone."""
@@ -75,7 +86,7 @@ class M3ua:
         was_up, self.is_up = self.is_up, False
         self.close()
         if not self.is_left:
-            say(f"A: no link to {self.centre.address}, port {self.centre.port}: {why}")
+            say(f"A: no link to {self.centre.address}, port {self.centre.port}: {why}", Level.ERROR)
             self.times.set("centre", self.seconds["retry"], self.start)
         if was_up:
             self.user.down()
@@ -109,7 +120,7 @@ class M3ua:
         """Takes a line of the program."""
         what, *words = line.decode().split()
         if what not in self.takers:
-            say(f"A: no line that is known: {what}")
+            say(f"A: no line that is known: {what}", Level.WARNING)
             return
         octets = [bytes.fromhex(words[-1].replace("-", ""))] if words and what != "ended" else []
         # the number of the connection stands in front, but where there is none
@@ -143,7 +154,9 @@ class M3ua:
     def unanswered(self, connection):
         """The other side doesn't answer: if it does yet, that is released."""
         self.put(f"release {connection.own}")
-        self.end(connection, "isn't answered")
+        self.user.unanswered(connection)
+        if connection.own in self.known:
+            self.end(connection, "isn't answered")
 
     def accept(self, connection):
         """Takes a connection that the other side asked for."""
@@ -157,7 +170,7 @@ class M3ua:
     def data(self, connection, octets):
         """Sends a message on a connection; it waits where that isn't open yet."""
         if len(octets) > sccp.LONGEST_DATA:
-            say(f"A: not sent, a message of {len(octets)} octets would have to be segmented: {octets[:20].hex()}")
+            say(f"A: not sent, a message of {len(octets)} octets would have to be segmented: {octets[:20].hex()}", Level.WARNING)
         elif connection.state is State.REQUESTED:
             connection.waiting.append(octets)
         elif connection.state is State.OPEN:
@@ -203,6 +216,7 @@ class M3ua:
 
     def ended(self, own):
         """The other side ended a connection, or didn't take it."""
+        self.user.show_sign()
         if connection := self.known.get(own):
             self.end(connection, "is released or refused")
 

@@ -15,7 +15,7 @@ import rsl
 from bssmap import Cause
 from mgcp import Command, Verb
 from rtp import codec_of
-from tell import say
+from tell import Level, say
 
 if typing.TYPE_CHECKING:
     from gateway import Gateway
@@ -226,7 +226,7 @@ class Media:
         elif not answer.is_done:
             self.fail(speech, side, Cause.NO_TERRESTRIAL_RESOURCE)
         elif not speech.endpoint or not side.connection or not side.local:
-            say(f"{self.gateway}: makes a connection, and doesn't say which, or where")
+            say(f"{self.gateway}: makes a connection, and doesn't say which, or where", Level.WARNING)
             self.fail(speech, side, Cause.EQUIPMENT_FAILURE)
         else:
             side.told = remote
@@ -241,7 +241,7 @@ class Media:
         if failed := speech.waiters()[1]:
             failed(cause)
         if is_lost and not speech.is_over:
-            say(f"{speech.talk}: its speech is lost")
+            say(f"{speech.talk}: its speech is lost", Level.WARNING)
             self.relay.a_side.ask_to_clear(speech.talk, Cause.EQUIPMENT_FAILURE)
 
     def delete(self, speech):
@@ -254,7 +254,7 @@ class Media:
     def deleted(self, endpoint, answer):
         """The gateway has deleted an endpoint, or hasn't answered."""
         if answer is None:
-            say(f"{self.gateway}: {endpoint} may be left there")
+            say(f"{self.gateway}: {endpoint} may be left there", Level.WARNING)
 
     # Stations
 
@@ -326,7 +326,7 @@ class Media:
 
     def leg_failed(self, speech, leg, why):
         """A station can't have a channel's speech. A mobile isn't sent where there is none."""
-        say(f"{speech.talk}: speech on channel {leg.channel}: its station {why}")
+        say(f"{speech.talk}: speech on channel {leg.channel}: its station {why}", Level.WARNING)
         self.times.forget(("speech", leg.channel))
         place = self.relay.talks.place(speech.talk)
         if leg.channel == speech.at:

@@ -15,19 +15,21 @@ from ciphering import Ciphering
 from information import Information
 from link_layer import SHORT_LINK
 from media import Media
-from operators import Operator
+from operators import HELP, Operator
 from paging import Paging
 from relay import Relay
+from reports import report_in
 from rsl import Channel
 from stations import MOST_NAMES
 from talks import Talks
-from tell import say
+from tell import Level, say
 
 # A message to the centre about a call.
 SAID = re.compile(rb"out a (\d+) ([0-9a-f]*)")
 # Lines of operators that name a call; and what they ask of the network.
 NAMING = (b"open", b"seize", b"handover", b"undo", b"clear", b"a", b"expire")
 NETWORK = [b"network"]
+HELP_OF_NETWORK = "network: the controller and its journal, the centre, what became of calls, speech and the media gateway"
 # Events of a call by which something changes here.
 FOLLOWED = ("open", "take", "command", "order", "complete", "undo", "left", "clear")
 # What a station says of a link.
@@ -66,7 +68,7 @@ class NetworkRelay(Relay):
         if what not in self.passed and len(self.passed) >= MOST_NAMES:
             what = "others"
         if what not in self.passed:
-            say(f"A: {what}")
+            say(f"A: {what}", Level.WARNING)
         self.passed[what] += 1
 
     def forget(self, talk):
@@ -86,8 +88,7 @@ class NetworkRelay(Relay):
         if isinstance(giver, Operator) and giver.is_served:
             words = line.split()
             if words == NETWORK:
-                giver.tell(self.known())
-                giver.tell(self.media.known())
+                giver.tell(*self.again.known(), self.known(), self.media.known())
                 return
             if len(words) > 1 and words[0] in NAMING and (number := NUMBER.fullmatch(words[1])):
                 self.talks.reserved.add(int(number[1]))
@@ -96,7 +97,7 @@ class NetworkRelay(Relay):
     def known(self):
         """What is known of the network, in one line."""
         counts, talks = self.a_side.counts, self.talks.by_number.values()
-        there = "there" if self.a_side.is_there else "not there"
+        there = "there" if self.a_side.is_there else f"not there since {self.a_side.since}"
         awaited = sum(talk.is_awaited for talk in talks)
         return (
             f"centre: {there}; calls: {len(talks)}, of which {awaited} await a mobile;"
@@ -104,6 +105,25 @@ class NetworkRelay(Relay):
             f" the centre began anew: {counts['resets']};"
             f" {self.paging.known()}; passed over: {sum(self.passed.values())}"
         )
+
+    def help(self):
+        """The lines that operators may give."""
+        return [*HELP[:-1], HELP_OF_NETWORK, HELP[-1]]
+
+    def of_mobile(self, number):
+        """Whose a call is, as the centre named him, and how far away he asked, in words."""
+        talk = self.talks.by_number.get(number)
+        identity = f", {talk.identity}" if talk and talk.identity else ""
+        return identity + (f", timing advance {talk.request.delay}" if talk and talk.request else "")
+
+    def note_report(self, station, message):
+        """A report of a channel came. A mobile that hears its own cell as another's is told."""
+        super().note_report(station, message)
+        cell = self.config.cells[station.cell]
+        carriers = sorted(cell.neighbours, key=lambda it: (it == 0, it))
+        for place, colours in report_in(message).neighbours:
+            if place < len(carriers) and (carriers[place], colours) == (cell.bcch, cell.colours):
+                self.notices.swapped(station, carriers[place], colours)
 
     # The controller
 
@@ -186,6 +206,7 @@ class NetworkRelay(Relay):
         elif said := link_layer.said_in(message):
             self.receive_said(station, said, message)
         elif message_type == rsl.MEASUREMENT_RESULT and not self.air.takes_report(station, number):
+            self.note_report(station, message)
             station.pass_over("MEASUREMENT RESULT before its call has speech")
         else:
             super().receive(station, stream, message)
@@ -220,7 +241,7 @@ class NetworkRelay(Relay):
     def tell_all(self):
         """Says what is known of each station and of the centre."""
         super().tell_all()
-        say(self.known())
-        say(self.media.known())
+        say(self.known(), Level.INFO)
+        say(self.media.known(), Level.INFO)
         for what, count in sorted(self.passed.items()):
-            say(f"A: {what}: {count}")
+            say(f"A: {what}: {count}", Level.INFO)

@@ -25,7 +25,7 @@ MOST_LINES = 100
 LONGEST_NUMBER = 20
 HELP = """\
 stations: the stations: since when each is there, its channels, its messages
-calls: the channels in use: of which call and since when, how the station has them, and whether that agrees; lost calls
+calls: the channels in use: of which call and since when, how stations have them, if that agrees, the last report; lost calls
 watch: from here on all that the controller prints; watch CALL: what comes of this call; watch off: no more of that
 summary: what came so far, counted in all and for each cell: calls, attempts at handover and their ends, messages, faults
 upgrade PROGRAM: the controller ends, and PROGRAM goes on with its calls, if it takes the journal
@@ -122,9 +122,9 @@ class Operator:
         if not words or line.startswith(b"#"):
             return
         if words == [b"help"]:
-            self.tell(*HELP)
+            self.tell(*self.relay.help())
         elif words == [b"stations"]:
-            self.tell(*(station.known() for station in self.relay.stations.values()))
+            self.tell(*self.relay.again.away(), *(station.known() for station in self.relay.stations.values()))
         elif words == [b"calls"]:
             self.tell(*self.relay.views.channels())
         elif words[0] == b"upgrade":

@@ -1,4 +1,5 @@
 """Options that both bridges take."""
+from tell import Level
 
 
 def seconds_of(word):
@@ -18,3 +19,4 @@ def add_common(parser):
     parser.add_argument("--figures")
     parser.add_argument("--figures-every", type=seconds_of, default=10.0)
     parser.add_argument("--messages", action="store_true")
+    parser.add_argument("--log-level", type=Level.of, default=Level.INFO)

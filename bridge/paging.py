@@ -72,6 +72,10 @@ class Sought:
     def __init__(self, imsi, tmsi, cells, message, times):
         self.imsi, self.tmsi, self.cells, self.message, self.times = imsi, tmsi, cells, message, times
 
+    def known(self):
+        """What the centre calls it."""
+        return f"IMSI {self.imsi}" + (f", TMSI {self.tmsi.hex()}" if self.tmsi else "")
+
 
 class Paging:
     """The mobiles that are looked for. `relay` has the stations."""
@@ -105,6 +109,9 @@ class Paging:
     def call(self, sought):
         """Calls a mobile in all its cells, of which the first TRX has the common channels; T3113 runs until it is called again.
         """
+        if sought.times < self.config.pagings:
+            for cell in sought.cells:
+                self.relay.tallies.expired(cell, "T3113")
         if sought.times == 0:
             self.counts["given up"] += 1
             self.end(sought)
@@ -116,14 +123,16 @@ class Paging:
         self.times.set(("t3113", sought.imsi), self.seconds["t3113"], lambda: self.call(sought), self.relay.once_read)
 
     def hear(self, layer_3):
-        """A mobile's first message came: where it answers, it is looked for no more."""
+        """A mobile's first message came: where it answers, it is looked for no more. What the centre calls it, empty where it isn't
+        looked for."""
         identity = identity_in(layer_3)
         if identity is None:
-            return
+            return ""
         sought = self.by_imsi.get(elements.imsi_in(identity)) or self.by_tmsi.get(elements.tmsi_in(identity))
         if sought:
             self.counts["answered"] += 1
             self.end(sought)
+        return sought.known() if sought else ""
 
     def end(self, sought):
         """A mobile isn't looked for any more."""

@@ -12,10 +12,13 @@ from calls import Calls, Event
 from endings import Endings
 from faults import Faults
 from lost import LostCalls
-from operators import Operator
+from notices import Notices
+from operators import HELP, Operator
+from reports import report_in
 from rsl import Channel
 from stations import ACTIVATING, CLOSING, LEAVING, ON, RELEASING, Station, Use
-from tell import now, plain, say, show, shown
+from tallies import Tallies
+from tell import Level, Since, plain, say, show, shown
 from views import Views
 
 if typing.TYPE_CHECKING:
@@ -91,21 +94,39 @@ class Relay:
         self.reasons: dict[int, str] = {}
         self.unread = 0
         # The line that was answered last, and how many lines of the answer were heard, of those that a journal notes; None for
-        # all of them. Whether the controller isn't there just now, so that lines wait.
+        # all of them. Since when the controller isn't there, so that lines wait; None where it is.
         self.line, self.heard = 0, None
-        self.is_away = False
+        self.away_since: Since | None = None
         # whether it has done all that it was given, and ended
         self.is_done = False
         # whether it has printed a line that no controller prints
         self.is_strayed = False
         self.again: Again
+        # by cell its traffic channels; None where the site isn't to be read
+        self.site: dict | None = None
+        self.begin_to_follow()
+
+    def begin_to_follow(self):
+        """What it knows of calls and channels, and what it counts."""
         # what came of lines, by how the controller's lines begin; and events, by name and reply
         self.counts: collections.Counter = collections.Counter()
         self.events: collections.Counter = collections.Counter()
         self.calls = Calls()
+        self.tallies = Tallies(self.calls)
+        self.notices = Notices(self.times)
         self.lost = LostCalls(self)
-        self.endings = Endings(times, seconds, self.release, self.once_read)
+        self.endings = Endings(self.times, self.seconds, self.release, self.once_read, self.tallies.expired)
         self.views = Views(self)
+
+    @property
+    def is_away(self):
+        """Whether the controller isn't there just now."""
+        return self.away_since is not None
+
+    @is_away.setter
+    def is_away(self, is_away):
+        if is_away != self.is_away:
+            self.away_since = Since() if is_away else None
 
     def once_read(self, action):
         """Does something once all is handled that lies unread in the links now."""
@@ -116,7 +137,7 @@ class Relay:
     def give(self, line, giver="bridge", answered=None):
         """Gives the controller a line; of a station perhaps with what it was asked that this answers."""
         if not self.is_away and not self.is_taking():
-            say(f"not given, the controller ends: {shown(line)}")
+            say(f"not given, the controller ends: {shown(line)}", Level.WARNING)
             return
         self.given.append((line, giver, answered))
         self.count_given(line, giver, 1)
@@ -189,12 +210,15 @@ class Relay:
         """A line is none of a controller's; the first is told."""
         if not self.is_strayed:
             self.is_strayed = True
-            say(f"the controller prints what isn't known: {shown(line)}")
+            say(f"the controller prints what isn't known: {shown(line)}", Level.WARNING)
 
     def act(self, line):
         """Does what a line of the controller says."""
         if (word := line.split(b" ", 1)[0]) in COUNTED:
             self.counts[word.decode()] += 1
+            if word == b"none":
+                self.notices.full(int(line.split()[2]))
+            self.tallies.see(line, isinstance(self.giver, Operator) and self.giver.is_served)
         if line.startswith(b"line "):
             self.await_reason(int(line.split()[1]))
         elif sent := SENT.fullmatch(line):
@@ -202,7 +226,9 @@ class Relay:
         elif asked := SENT_ON_A.fullmatch(line):
             self.lost.request(asked[1].decode(), bytes.fromhex(asked[2].decode()))
         elif came := CAME.fullmatch(line):
-            about = rsl.about_channel(bytes.fromhex(came[3].decode()))
+            message = bytes.fromhex(came[3].decode())
+            self.tallies.came(int(came[1]), message)
+            about = rsl.about_channel(message)
             self.about = about and about[1]
             if about and about[0] == rsl.CONNECTION_FAILURE:
                 self.lost.failed(Channel(int(came[1]), int(came[2]), about[1]))
@@ -214,6 +240,7 @@ class Relay:
     def follow(self, event):
         """An event was asked of the book."""
         self.events[event.name, event.reply] += 1
+        self.tallies.follow(event)
         self.calls.follow(event)
         self.lost.follow(event)
         if event.reply != "refused":
@@ -267,7 +294,7 @@ class Relay:
         self.times.forget(("reason", number))
         self.unread += 1
         text = f"{shown(line)}: {self.reasons.pop(number, 'the controller says no reason')}"
-        say(f"the controller can't read: {text}")
+        say(f"the controller can't read: {text}", Level.WARNING)
         if isinstance(giver, Operator):
             giver.hear(f"refused: {text}".encode())
 
@@ -325,7 +352,7 @@ class Relay:
         if not isinstance(station, Station) or station.link is None or channel in self.calls.channels:
             return
         if station.state(number) not in (CLOSING, RELEASING):
-            station.link.say(f"has channel {channel}, which is free here: it is sent RF CHANNEL RELEASE")
+            station.link.say(f"has channel {channel}, which is free here: it is sent RF CHANNEL RELEASE", Level.WARNING)
             self.times.forget((station.unit, number))
             self.endings.forget(station, number)
             station.channels[number] = Use(CLOSING)
@@ -342,7 +369,7 @@ class Relay:
         if station:
             station.unsent += 1
         else:
-            say(f"no unit is named for cell {cell}, TRX {trx}: not sent {message.hex()}")
+            say(f"no unit is named for cell {cell}, TRX {trx}: not sent {message.hex()}", Level.WARNING)
             station = Station("", cell, trx)
         message_type, number = rsl.about_channel(message) or (None, None)
         self.answer_at_once(station, number, message_type)
@@ -359,7 +386,8 @@ class Relay:
         be taken for an answer to what it is asked now. So nobody gets the channel before."""
         station.unsent += 1
         since = station.channels[number].since
-        station.link.say(f"channel {station.channel(number)} isn't given: its release since {since} isn't acknowledged")
+        channel = station.channel(number)
+        station.link.say(f"channel {channel} isn't given: its release since {since} isn't acknowledged", Level.WARNING)
         self.answer_at_once(station, number, message_type)
 
     def await_answer(self, station, number, state):
@@ -372,7 +400,8 @@ class Relay:
     def answer_for(self, station, number):
         """A station didn't answer in time."""
         state, channel = station.channels[number].state, station.channel(number)
-        say(f"{station}: no answer about channel {channel}, which is {state}, in {self.seconds['answer']:g} seconds")
+        say(f"{station}: no answer about channel {channel}, which is {state}, in {self.seconds['answer']:g} seconds", Level.WARNING)
+        self.tallies.expired(station.cell, "answer")
         self.answer_in_place(station, number, state)
         if state == RELEASING and station.link:
             # its acknowledgement is to come yet
@@ -383,7 +412,7 @@ class Relay:
         it awaits that of the release."""
         state, number = self.answered, self.about
         if station.link:
-            station.link.say(f"its answer about channel {station.channel(number)}, which is {state}, can't be read")
+            station.link.say(f"its answer about channel {station.channel(number)}, which is {state}, can't be read", Level.WARNING)
         if station.state(number) in (None, ON):
             self.answer_in_place(station, number, state)
 
@@ -403,18 +432,30 @@ class Relay:
 
     def receive(self, station, stream, message):
         """Takes a message of a station."""
+        if stream == station.trx and rsl.is_report(message):
+            self.note_report(station, message)
         if stream != station.trx:
             station.pass_over(f"stream {stream:02x}")
         elif not rsl.is_taken(message):
             self.pass_over(station, message)
         elif len(message) > rsl.LONGEST:
-            station.link.say(f"a message of {len(message)} octets is passed over, it has no room in a line")
+            station.link.say(f"a message of {len(message)} octets is passed over, it has no room in a line", Level.WARNING)
             station.pass_over("too long")
         elif self.is_late(station, message):
             station.pass_over("late answer")
         else:
             station.came += 1
             self.give_message(station.cell, station.trx, message, station, self.take_answer(station, message))
+
+    def note_report(self, station, message):
+        """A report of a channel came; the last is what operators are told."""
+        _, number = rsl.about_channel(message)
+        if use := station.channels.get(number):
+            use.report = report_in(message)
+
+    def of_mobile(self, _number):
+        """Whose a call is, in words: here nobody says that."""
+        return ""
 
     def pass_over(self, station, message):
         """Takes a message for which the controller has no row: it is counted."""
@@ -423,9 +464,9 @@ class Relay:
         station.pass_over(name)
         if rsl.kind(message) == (rsl.TRX, rsl.ERROR_REPORT):
             cause = rsl.cause(message) or "missing"
-            station.link.say(f"{name}, it took a message for wrong, cause {cause}: {message[:60].hex()}")
+            station.link.say(f"{name}, it took a message for wrong, cause {cause}: {message[:60].hex()}", Level.WARNING)
         elif self.tells_messages:
-            station.link.say(f"{name}, not for the controller: {message[:60].hex()}")
+            station.link.say(f"{name}, not for the controller: {message[:60].hex()}", Level.INFO)
 
     def is_late(self, station, message):
         """Whether a message is an answer of yore, which isn't handed on: it was given in the station's place, or stood in front
@@ -471,13 +512,13 @@ class Relay:
 
     def come(self, station, link):
         """A station is there."""
-        station.link, station.since = link, now()
+        station.link, station.since = link, Since()
         link.say(f"there, from {link.peer}")
 
     def lose(self, station):
         """A station's link was lost: what it left open is closed in its place."""
-        station.link.say(f"its link is lost, with {len(station.channels)} channels")
-        station.link = None
+        station.link.say(f"its link is lost, with {len(station.channels)} channels", Level.WARNING)
+        station.link, station.since = None, Since()
         station.lost += 1
         channels, station.channels = station.channels, {}
         for number, use in channels.items():
@@ -490,6 +531,10 @@ class Relay:
             elif use.state == ON:
                 self.say_for(station, rsl.CONNECTION_FAILURE, number, rsl.FAILURE)
 
+    def help(self):
+        """The lines that operators may give."""
+        return HELP
+
     def figures(self):
         """The figures of all that is known (figures.py)."""
         return figures.of_stations(self)
@@ -497,6 +542,6 @@ class Relay:
     def tell_all(self):
         """Says what is known of each station, and what was passed over."""
         for station in self.stations.values():
-            say(station.known())
+            say(station.known(), Level.INFO)
             if passed := station.passed_over():
-                say(passed)
+                say(passed, Level.INFO)

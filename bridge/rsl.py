@@ -152,6 +152,11 @@ def about_channel(message):
     return message[1], message[3]
 
 
+def is_report(message):
+    """Whether a message is a channel's MEASUREMENT RESULT."""
+    return (about_channel(message) or (None, None))[0] == MEASUREMENT_RESULT
+
+
 def on_main_link(message):
     """The type of a message of the radio link layer on the main link of a channel, and the channel number; None where it is
     another message."""

@@ -5,8 +5,9 @@ import collections
 import dataclasses
 import typing
 
+from reports import Report
 from rsl import Channel
-from tell import now
+from tell import Since
 
 if typing.TYPE_CHECKING:
     from links import Link
@@ -23,9 +24,11 @@ class Use:
     """How a station has a channel, and since when."""
 
     state: str
-    since: str = dataclasses.field(default_factory=now)
+    since: Since = dataclasses.field(default_factory=Since)
     # where it was asked for something: how many octets had come from it by then, none of which answers that
     asked: int = 0
+    # the last report of the channel
+    report: Report | None = None
 
 
 @dataclasses.dataclass(eq=False)
@@ -38,8 +41,8 @@ class Station:
     # From where it may come; from anywhere, where that is empty.
     addresses: tuple = ()
     link: Link | None = None
-    # When it came, and how often a link of it was lost.
-    since: str = ""
+    # When it came, or went; and how often a link of it was lost.
+    since: Since | None = None
     lost: int = 0
     # How many messages it sent that were handed on, and how many were sent to it.
     came: int = 0
@@ -65,9 +68,15 @@ class Station:
         """Counts a message that isn't handed on."""
         self.passed[name if name in self.passed or len(self.passed) < MOST_NAMES else "others"] += 1
 
+    def there(self):
+        """Whether it is there, and since when."""
+        if self.link:
+            return f"there since {self.since}"
+        return f"not there since {self.since}" if self.since else "not there yet"
+
     def known(self):
         """What is known of it, in one line."""
-        there = f"there since {self.since}" if self.link else "not there"
+        there = self.there()
         states = collections.Counter(use.state for use in self.channels.values())
         channels = ", ".join(f"{count} {state}" for state, count in sorted(states.items())) or "none in use"
         passed = sum(self.passed.values())

@@ -20,6 +20,8 @@ class Talk:
         # how it began on the air: the station, the request, and whether its mobile is awaited
         self.station = self.request = None
         self.is_awaited = False
+        # whose it is, as the centre named him
+        self.identity = ""
         # its connection to the centre, and whether that ended before the call did
         self.connection = None
         self.is_cut = False

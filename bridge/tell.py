@@ -1,4 +1,6 @@
-"""What the bridge says (standard error) and shows (standard output). What is said of one peer is bounded."""
+"""What the bridge says (standard error) and shows (standard output). What is said has a level; of one peer it is bounded."""
+import enum
+import os
 import time
 
 from stream import Writer
@@ -13,9 +15,54 @@ LONGEST = 4_000
 MOST_PEERS = 1000
 
 
+class Level(enum.IntEnum):
+    """How much a line matters, by the numbers that systemd's journal has for it (sd-daemon(3))."""
+
+    # something doesn't work that has to; something is wrong, or lost; something that matters has changed; all else
+    ERROR = 3
+    WARNING = 4
+    NOTICE = 5
+    INFO = 6
+
+    @classmethod
+    def of(cls, word):
+        """The level that a word says."""
+        try:
+            return cls[word.upper()]
+        except KeyError:
+            raise ValueError(word) from None
+
+
+class Said:
+    """Which lines are said, and how."""
+
+    # the last level of which lines are said
+    last = Level.INFO
+    # whether standard error is systemd's journal, which then knows a line's level by the number in front
+    is_journal = False
+
+
+def says_up_to(level):
+    """Lines up to a level are said from here on."""
+    Said.last = level
+    status = os.fstat(2)
+    Said.is_journal = os.environ.get("JOURNAL_STREAM") == f"{status.st_dev}:{status.st_ino}"
+
+
 def now():
     """The time of day."""
     return time.strftime("%H:%M:%S")
+
+
+class Since:
+    """A moment, from which on something is so: told by its time of day, and by its date where that isn't today's."""
+
+    def __init__(self):
+        self.at = time.localtime()
+
+    def __str__(self):
+        is_today = self.at[:3] == time.localtime()[:3]
+        return time.strftime("%H:%M:%S" if is_today else "%Y-%m-%d %H:%M:%S", self.at)
 
 
 def plain(text):
@@ -29,12 +76,14 @@ def plain(text):
 
 def shown(line):
     """A line as it is told in another."""
-    return plain(line[:100].decode(errors="replace"))
+    return plain(line.decode(errors="replace"))
 
 
-def say(text):
-    """Tells the operator something, with the time."""
-    ERRORS.put(f"{now()} {plain(text)}\n".encode(errors="replace"))
+def say(text, level=Level.NOTICE):
+    """Tells the operator something, with the time and its level."""
+    if level <= Said.last:
+        number = f"<{level.value}>" if Said.is_journal else ""
+        ERRORS.put(f"{number}{now()} {level.name.lower()}: {plain(text)}\n".encode(errors="replace"))
 
 
 def show(line):
@@ -49,8 +98,10 @@ class Sayings:
         self.times = times
         self.said = {}
 
-    def say(self, peer, text):
-        """Says something of a peer, unless too much was said of it."""
+    def say(self, peer, text, level=Level.NOTICE):
+        """Says something of a peer, unless too much was said of it. What isn't said for its level doesn't count."""
+        if level > Said.last:
+            return
         if peer not in self.said and len(self.said) >= MOST_PEERS:
             peer = "others"
         if peer not in self.said:
@@ -58,10 +109,10 @@ class Sayings:
             self.times.set(("said", peer), PERIOD, lambda: self.end(peer))
         self.said[peer] += 1
         if self.said[peer] <= MOST_LINES:
-            say(text)
+            say(text, level)
 
     def end(self, peer):
         """A while is over."""
         left_out = self.said.pop(peer) - MOST_LINES
         if left_out > 0:
-            say(f"{peer}: {left_out} lines more in {PERIOD:g} seconds are left out")
+            say(f"{peer}: {left_out} lines more in {PERIOD:g} seconds are left out", Level.WARNING)

@@ -26,8 +26,8 @@ class Views:
         known = set(calls.channels)
         for station in stations.values():
             known |= {station.channel(number) for number in station.channels}
-        lines = [self.channel(channel) for channel in sorted(known)]
-        return [*lines, *self.relay.lost.known()] or ["no channel is in use"]
+        lines = [*(self.channel(channel) for channel in sorted(known)), *self.relay.lost.known()]
+        return [*self.relay.again.away(), *(lines or ["no channel is in use"])]
 
     def channel(self, channel):
         """What is known of a channel, in one line."""
@@ -35,11 +35,12 @@ class Views:
         here = f"{used.state}{self.of_call(used.call)} since {used.since}" if used else "free"
         use = station and station.channels.get(channel.number)
         if station is None or station.link is None:
-            there = "not there"
+            there = station.there() if station else "no unit is named"
         else:
             there = f"{use.state} since {use.since}" if use else "at rest"
         agrees = (use and use.state) in AGREEING[used and used.state]
-        return f"channel {channel}: {here}; station: {there}{'' if agrees else '; THEY DIFFER'}"
+        report = f"; {use.report}" if use and use.report else ""
+        return f"channel {channel}: {here}; station: {there}{'' if agrees else '; THEY DIFFER'}{report}"
 
     def of_call(self, number):
         """A channel's call in words, with its attempt at handover."""
@@ -47,4 +48,5 @@ class Views:
         if call is None:
             return ""
         to = f" to {call.target}" if call.target else ""
-        return f" for call {number}" + (f" ({call.kind} {call.stage}{to})" if call.kind else "")
+        attempt = f" ({call.kind} {call.stage}{to})" if call.kind else ""
+        return f" for call {number}{self.relay.of_mobile(int(number))}{attempt}"

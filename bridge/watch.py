@@ -2,7 +2,7 @@
 import os
 import pathlib
 
-from tell import say
+from tell import Level, Since, say
 
 # In so many parts the time is divided in which it may answer nothing; behind each it is looked at. A bridge that itself gets no
 # time looks less often, and so is more patient.
@@ -37,6 +37,7 @@ class Watch:
         self.times.forget("watch")
         # how much of an answer was heard; for how many parts no more was; for how many of these it hangs; what it had of processors
         self.place, self.parts, self.hanging, self.used = None, 0, 0.0, None
+        self.since = Since()
 
     def await_answer(self):
         """It has a line to answer, or is to go on, or to end."""
@@ -56,13 +57,18 @@ class Watch:
             self.parts += 1
             self.hanging += self.hangs()
         if self.hanging >= PARTS:
-            say(f"the controller answers nothing for {self.seconds:g} seconds, and is killed")
+            say(f"the controller answers nothing for {self.seconds:g} seconds, and is killed", Level.ERROR)
             self.bridge.kill_core()
             return
         if self.parts == PARTS:
             doing = "is ending, or beginning" if self.is_between() else "waits for a disk or a processor, or is beginning"
-            say(f"the controller answers nothing for {self.seconds:g} seconds: it {doing}")
+            say(f"the controller answers nothing for {self.seconds:g} seconds: it {doing}", Level.WARNING)
         self.await_answer()
+
+    def silent_since(self):
+        """Since when it answers nothing, though it has lines; None where it does."""
+        is_silent = self.parts > 0 and self.place == (self.relay.line, self.relay.heard) and self.relay.given
+        return self.since if is_silent else None
 
     def is_between(self):
         """Whether it is to go on over its journal yet, or to end."""

@@ -1,0 +1,36 @@
+"""What the bridge notices, and tells of itself, at most once a while: a cell that is full, and a station that seems to be another
+cell's."""
+import collections
+
+from tell import Level, say
+
+# For how many seconds nothing of a cell or a station is told again.
+QUIET = 60.0
+
+
+class Notices:
+    """What was noticed."""
+
+    def __init__(self, times):
+        self.times = times
+        # by cell how often no channel was free since that was told
+        self.untold: collections.Counter = collections.Counter()
+
+    def full(self, cell):
+        """A channel of a cell was asked for, and none of the rate was free."""
+        if self.times.is_set(("full", cell)):
+            self.untold[cell] += 1
+            return
+        more = f"; {self.untold[cell]} times more since that was told last" if self.untold[cell] else ""
+        say(f"cell {cell} is full: a channel was asked for, and none of the rate is free{more}", Level.WARNING)
+        self.untold[cell] = 0
+        self.times.set(("full", cell), QUIET, lambda: None)
+
+    def swapped(self, station, carrier, colours):
+        """A mobile on a station hears the carrier and the colours of this station's own cell beside it: two units may be swapped."""
+        if self.times.is_set(("swapped", station.unit)):
+            return
+        heard = f"carrier {carrier} with colours {colours >> 3}/{colours & 7}"
+        why = "is its unit that of another cell?"
+        say(f"{station}: a telephone on it hears {heard}, which is this cell, as a neighbour: {why}", Level.WARNING)
+        self.times.set(("swapped", station.unit), QUIET, lambda: None)
