@@ -1,6 +1,6 @@
 -- What a journal that is written shows to its callers. Ours, of no standard. What is told of a file is what is handed to it: what a
 -- file system makes of that no definition says.
-use Rattle.std.specs.Prelude.{◌≡◌, ◌≢◌, ◌≤◌, ◌-◌, ℕ, List, [], ◌∷◌, ◌++◌, length, max, Option, Some, None, IfSome, ⊤}
+use Rattle.std.specs.Prelude.{◌≡◌, ◌≢◌, ◌≤◌, ◌-◌, ℕ, List, [], ◌++◌, length, max, Option, Some, None, IfSome, ⊤}
 use Rattle.std.specs.Io.KnownBytes.{Appends}
 use Rattle.journal_records.specs.Records.{record_text}
 use Rattle.journal_records.specs.Files.{first_line}

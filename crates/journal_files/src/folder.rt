@@ -4,6 +4,7 @@
 ghost use Rattle.std.specs.Prelude.{OnOk, IfOk};
 ghost use Rattle.std.specs.Io.KnownBytes.{Appends};
 ghost use Rattle.journal_files.specs.Journals.{IsHanded, IsRead};
+ghost use Rattle.journal_files.specs.Listings.{IsListed};
 
 use crate::listing::{Listing, listing_of};
 use crate::locking::Locking;
@@ -201,7 +202,9 @@ impl<'a, R: Files + AllocGlobal> Folder<'a, R> {
     }
 
     /// What is in the folder.
-    pub fn list(&self) -> io::Result<Listing> {
+    pub fn list(&self) -> io::Result<Listing>
+        ensures listed { IfOk result (λ listing. IsListed R.Dir.remaining listing.spans.items) }
+    {
         // also where the path is that of a link
         let path = self.reach(".")?;
         let mut dir = self.rt.open_dir(path.as_str())?;

@@ -1,4 +1,9 @@
 //! What is in the folder of a journal.
+ghost use Rattle.std.specs.Prelude.{◌≡◌, ◌++◌, ℕ, List, Option, false, OnOk, IfOk, IfSome};
+ghost use Rattle.std.specs.Io.KnownBytes.{Consumes, IsAtEnd};
+ghost use Rattle.std.specs.Option.{option_to_list};
+ghost use Rattle.journal_files.specs.Listings.{number_of, numbers_in, AreSpans};
+
 use crate::names::{is_beside, number_of};
 use std::alloc::{AllocError, Global};
 use std::io::{self, Read};
@@ -24,36 +29,59 @@ fn shown_name(alloc: Global, name: &[u8]) -> Result<String, AllocError> {
     }
 }
 
-/// Enters the name of a file.
-fn enter(alloc: Global, listing: &mut Listing, name: &[u8]) -> Result<(), AllocError> {
+/// Enters the name of a file that begins no span, unless it is one of a journal's all the same.
+fn enter_other(alloc: Global, others: &mut Vec<String>, name: &[u8]) -> Result<(), AllocError> {
     let name = shown_name(alloc, name)?;
     if name.is_empty() || name.as_str() == "." || name.as_str() == ".." || is_beside(&name) {
         return Ok(());
     }
-    match number_of(&name) {
+    Ok(others.push(name)?)
+}
+
+/// Enters the name of a file.
+fn enter(alloc: Global, listing: &mut Listing, name: &[u8]) -> Result<(), AllocError>
+    ensures spans { OnOk result (listing.new.spans.items ≡
+        listing.old.spans.items ++ option_to_list (number_of name.now)) }
+{
+    match number_of(name) {
         Some(number) => Ok(listing.spans.push(number)?),
-        None => Ok(listing.others.push(name)?),
+        None => enter_other(alloc, &mut listing.others, name),
     }
+}
+
+/// Reads octets of a folder's names behind those that were read. The answer is whether there were some.
+#[tactic(auto, using(crate::proofs::Pieces::piece_more))]
+fn read_piece<D: Read>(dir: &mut D, names: &mut Vec<u8>) -> io::Result<bool>
+    ensures read { OnOk result ((first : Option (List ℕ)) → Consumes first (D.remaining dir.old) names.old.items →
+        Consumes first (D.remaining dir.new) names.new.items) }
+    ensures end { IfOk result (λ is_more. is_more ≡ false → IsAtEnd (D.remaining dir.new)) }
+{
+    let mut room = [0; NAMES];
+    let read = dir.read(&mut room)?;
+    names.extend_from_slice(&room[..read])?;
+    Ok(read > 0)
 }
 
 /// All octets of the names in a folder, each ended by a NUL.
-fn names_in<D: Read>(alloc: Global, dir: &mut D) -> io::Result<Vec<u8>> {
+#[tactic(auto, using(crate::proofs::Pieces::pieces_end))]
+fn names_in<D: Read>(alloc: Global, dir: &mut D) -> io::Result<Vec<u8>>
+    ensures names { IfOk result (λ names. IfSome (D.remaining dir.old) (λ all. names.items ≡ all)) }
+{
     let mut names = Vec::new(alloc);
-    let mut room = Vec::new(alloc);
-    room.resize(NAMES, 0u8)?;
-    for _ in 0..u64::MAX {
-        let read = dir.read(room.as_mut_slice())?;
-        if read == 0 {
-            break;
+    for _round in 0..u64::MAX {
+        let is_more = read_piece(dir, &mut names)?;
+        if !is_more {
+            return Ok(names);
         }
-        names.extend_from_slice(&room[..read])?;
     }
-    Ok(names)
+    // no folder has so many names
+    Err(io::Error::from(io::ErrorKind::Other))
 }
 
-/// What is in a folder that was opened to be listed.
-pub(crate) fn listing_of<D: Read>(alloc: Global, dir: &mut D) -> io::Result<Listing> {
-    let names = names_in(alloc, dir)?;
+/// What names say, of which a NUL ends each.
+fn entered(alloc: Global, names: &[u8]) -> Result<Listing, AllocError>
+    ensures spans { IfOk result (λ listing. listing.spans.items ≡ numbers_in names.now) }
+{
     let mut listing = Listing {
         spans: Vec::new(alloc),
         others: Vec::new(alloc),
@@ -61,6 +89,16 @@ pub(crate) fn listing_of<D: Read>(alloc: Global, dir: &mut D) -> io::Result<List
     for name in names.split(|octet| *octet == 0) {
         enter(alloc, &mut listing, name)?;
     }
+    Ok(listing)
+}
+
+/// What is in a folder that was opened to be listed.
+pub(crate) fn listing_of<D: Read>(alloc: Global, dir: &mut D) -> io::Result<Listing>
+    ensures spans { IfOk result (λ listing. IfSome (D.remaining dir.old) (λ names.
+        AreSpans names listing.spans.items)) }
+{
+    let names = names_in(alloc, dir)?;
+    let mut listing = entered(alloc, &names)?;
     listing.spans.sort()?;
     listing.others.sort()?;
     Ok(listing)

@@ -4,6 +4,7 @@ use Rattle.cell_table.specs.Site.{SiteView}
 use Rattle.radio_book.specs.State.{State, empty_book}
 use Rattle.journal_files.specs.declared.journal.Journal.{Journal}
 use Rattle.journal_files.specs.Journals.{file_of, last_of, waiting_of, IsHanded, IsRead}
+use Rattle.journal_files.specs.Listings.{IsListed}
 use Rattle.journal_resume.specs.Resume.{IsJournal}
 
 -- A journal goes on with a file of the site that has this number in its name, and had these octets: its own file was handed them
@@ -34,6 +35,6 @@ abbrev pub OpensBy : {R F D : Type 0} → (F → Option (List ℕ)) → (F → O
 OpensBy contents remaining sum site None j b = Begins contents sum site j b
 OpensBy contents remaining sum site (Some number) j b = (octets : List ℕ) × IsRead remaining octets × GoesOn contents sum site number octets j b
 
--- A journal opens so, whatever files the folder has: no clause says which these are.
-abbrev pub Opens : {R F D : Type 0} → (F → Option (List ℕ)) → (F → Option (List ℕ)) → ℕ → SiteView → Journal R F D → State → Type 0
-Opens contents remaining sum site j b = (last : Option ℕ) × OpensBy contents remaining sum site last j b
+-- A journal opens so, by the names that its folder gave as it was listed.
+abbrev pub Opens : {R F D N : Type 0} → (F → Option (List ℕ)) → (F → Option (List ℕ)) → (N → Option (List ℕ)) → ℕ → SiteView → Journal R F D → State → Type 0
+Opens contents remaining names sum site j b = (spans : List ℕ) × IsListed names spans × OpensBy contents remaining sum site (last_span spans) j b

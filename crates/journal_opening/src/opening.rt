@@ -259,8 +259,8 @@ fn try_to_open<'a, R: Files + AllocGlobal, W: Write, E: Write>(
 ) -> Result<Opened<'a, R>, OpenFault>
 where
     R::File: Locking,
-    ensures opens { IfOk result (λ opened. Opens R.File.contents R.File.remaining site_sum site.value
-        opened.journal opened.book) }
+    ensures opens { IfOk result (λ opened. Opens R.File.contents R.File.remaining R.Dir.remaining
+        site_sum site.value opened.journal opened.book) }
 {
     let is_named = make_folder(rt, asked.folder, errors)?;
     let folder = lock_folder(rt, asked.folder, errors)?;
@@ -286,7 +286,7 @@ pub fn open_journal<'a, R: Files + AllocGlobal, W: Write, E: Write>(
 where
     R::File: Locking,
     ensures opens { IfOk result (λ found. IfSome found (λ opened. Opens R.File.contents R.File.remaining
-        site_sum site.value opened.journal opened.book)) }
+        R.Dir.remaining site_sum site.value opened.journal opened.book)) }
 {
     match try_to_open(rt, asked, site, site_sum, out, errors) {
         Ok(opened) => Ok(Some(opened)),

@@ -1,5 +1,5 @@
 -- The records of a journal. Ours, of no standard. A text is the list of its bytes.
-use Rattle.std.specs.Prelude.{◌≡◌, ◌⊎◌, ◌<◌, ◌+◌, ◌^◌, ℕ, List, [], ◌∷◌, ◌++◌, length, codes}
+use Rattle.std.specs.Prelude.{◌≡◌, ◌⊎◌, ◌<◌, ◌^◌, ℕ, List, [], ◌∷◌, ◌++◌, length, codes}
 use Rattle.journal_records.specs.Checksum.{checksum}
 use Rattle.journal_records.specs.Numerals.{numeral}
 

@@ -2,32 +2,40 @@
 ghost use Rattle.std.specs.Prelude.{◌≡◌};
 ghost use Rattle.journal_records.specs.Checksum as spec;
 
-/// The generator polynomial, its highest term left out, with the coefficient of x^31 lowest.
-const GENERATOR: u32 = 0xEDB8_8320;
-
 const ALL_ONES: u32 = 0xFFFF_FFFF;
 
-/// A bit leaves the register; where it is a one, the generator is added.
-#[tactic(auto, unfolding(crate::specs::Checksum::shifted))]
-fn shifted(register: u32) -> u32
-    ensures { result ≡ spec.shifted register }
+/// What four bits leave behind in the register when they leave it: the generator polynomial, added where a one leaves.
+const LEFT_BEHIND: [u32; 16] = [
+    0x0000_0000,
+    0x1DB7_1064,
+    0x3B6E_20C8,
+    0x26D9_30AC,
+    0x76DC_4190,
+    0x6B6B_51F4,
+    0x4DB2_6158,
+    0x5005_713C,
+    0xEDB8_8320,
+    0xF00F_9344,
+    0xD6D6_A3E8,
+    0xCB61_B38C,
+    0x9B64_C2B0,
+    0x86D3_D2D4,
+    0xA00A_E278,
+    0xBDBD_F21C,
+];
+
+/// The lowest four bits leave the register.
+fn four_shifted(register: u32) -> u32
+    ensures { result ≡ spec.shifts 4 register }
 {
-    if register % 2 == 1 {
-        (register / 2) ^ GENERATOR
-    } else {
-        register / 2
-    }
+    (register / 16) ^ LEFT_BEHIND[(register % 16) as usize]
 }
 
 /// An octet is added, and its eight bits leave.
 fn after_octet(register: u32, octet: u8) -> u32
     ensures { result ≡ spec.after_octet register octet }
 {
-    let mut left = register ^ u32::from(octet);
-    for _bit in 0..8u8 {
-        left = shifted(left);
-    }
-    left
+    four_shifted(four_shifted(register ^ u32::from(octet)))
 }
 
 /// The check of some octets by IEEE 802.3 (clause 3.2.9): CRC-32.

@@ -1,4 +1,4 @@
-use Rattle.std.proofs.Common.{◌≡◌, ◌+◌, ◌<◌, ◌%◌, ◌^◌, sym, ◌∙◌, ap, bit_xor, fold, drop, arith}
+use Rattle.std.proofs.Common.{◌+◌, ◌<◌, ◌%◌, ◌^◌, sym, ◌∙◌, ap, bit_xor, fold, drop, arith}
 use Rattle.std.proofs.Math.Nat.{mod-eq_of_lt}
 use Rattle.std.proofs.lemmas.Nat.{xor_of_32}
 use Rattle.std.proofs.lemmas.List.{at_drop_more, at_drop_all}

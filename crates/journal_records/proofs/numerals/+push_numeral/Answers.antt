@@ -1,4 +1,4 @@
-use Rattle.std.proofs.Common.{◌≡◌, ◌+◌, ◌-◌, ◌/◌, ◌%◌, ◌++◌, ◌∷◌, [], ap, ◌∙◌, arith}
+use Rattle.std.proofs.Common.{◌-◌, ◌/◌, ◌++◌, ◌∷◌, [], ap, ◌∙◌, arith}
 use Rattle.journal_records.specs.Numerals.{numeral}
 use Rattle.journal_records.proofs.ReadBack.{none_behind, one_behind}
 use Rattle.journal_records.proofs.numerals.+push_numeral.Goals as goal

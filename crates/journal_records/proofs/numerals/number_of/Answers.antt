@@ -1,4 +1,4 @@
-use Rattle.std.proofs.Common.{◌≡◌, ◌+◌, sym, ◌∙◌, ap, fold, drop}
+use Rattle.std.proofs.Common.{◌+◌, sym, ◌∙◌, ap, fold, drop}
 use Rattle.std.proofs.lemmas.List.{at_drop_more, at_drop_all}
 use Rattle.journal_records.specs.Numerals.{after_digit}
 use Rattle.journal_records.proofs.numerals.number_of.Goals as goal

@@ -1,6 +1,5 @@
-use Rattle.std.proofs.Common.{◌≡◌, ◌+◌, ◌≤◌, ◌<◌, ◌++◌, inr, ℕ, List, drop, length, sym, ◌∙◌, ap, subst, IsOkAnd, arith}
+use Rattle.std.proofs.Common.{◌≡◌, ◌++◌, inr, drop, length, sym, ◌∙◌, ap, subst, IsOkAnd, arith}
 use Rattle.journal_records.specs.Checksum.{checksum}
-use Rattle.journal_records.specs.Records.{HasHead}
 use Rattle.journal_records.proofs.Heads.{one_head, head_of_record, record_is_long, body_is_cut}
 use Rattle.journal_records.proofs.record.first_record.Goals as goal
 

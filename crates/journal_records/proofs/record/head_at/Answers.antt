@@ -1,6 +1,6 @@
-use Rattle.std.proofs.Common.{◌≡◌, ◌+◌, ◌≤◌, ◌<◌, ◌++◌, ℕ, List, take, drop, length, sym, ◌∙◌, ap, IsTrue, arith}
+use Rattle.std.proofs.Common.{◌≡◌, sym, ◌∙◌, ap, arith}
 use Rattle.std.proofs.lemmas.Bool.{false≢true}
-use Rattle.journal_records.specs.Records.{head_text, HasHead}
+use Rattle.journal_records.specs.Records.{head_text}
 use Rattle.journal_records.proofs.Heads.{fields}
 use Rattle.journal_records.proofs.record.head_at.Goals as goal
 
