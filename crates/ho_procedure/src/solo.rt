@@ -68,6 +68,7 @@ impl<A: Allocator + Copy> DeskView for Solo<A> {
 
     // The trait's clauses once more; that no channel is found where none is free; and that memory is refused only where the desk
     // may be refused it.
+    #[inline(always)]
     fn ask(&mut self, ask: Ask) -> Result<Option<Receipt>, DeskFault>
         ensures ok { IfOk result (λ answer. MatchOption answer
             ((self.new.history ≡ self.old.history) ×

@@ -8,7 +8,7 @@ ghost use Rattle.lab_runs.specs.Course.{IsOpening, BeginsWith, IsAnewAt, AreOpen
 use crate::asked::{Met, inputs_asked};
 use crate::calls::mobile_channel;
 use crate::noting::Noting;
-use crate::turn::{TurnFault, take_turn};
+use crate::turn::{Spare, TurnFault, take_turn};
 use cell_table::Site;
 use channel_fsm::ChanId;
 use exchange::Inbound;
@@ -150,13 +150,14 @@ impl<A: Allocator + Copy> Controllers<A> {
         }
     }
 
-    /// A controller that is there handles an input, and says what came of it.
+    /// A controller that is there handles an input, and says what came of it, in the lists of an earlier turn.
     pub(crate) fn take_turn(
         &mut self,
         alloc: A,
         side: Side,
         source: Source,
         input: Inbound<A>,
+        spare: Spare<A>,
     ) -> Result<Turn<A>, TurnFault<A>>
         requires there { is_there (is_some self.old.peer) side ≡ true }
         ensures turn { IfOk result (λ turn. IsTurnOf (positions_of self.old) turn (positions_of self.new)) }
@@ -166,9 +167,9 @@ impl<A: Allocator + Copy> Controllers<A> {
         ensures input { IfOk result (λ turn. turn.input ≡ input) }
     {
         match side {
-            Side::First => take_turn(alloc, &mut self.first, Side::First, source, input),
+            Side::First => take_turn(alloc, &mut self.first, Side::First, source, input, spare),
             Side::Peer => match &mut self.peer {
-                Some(peer) => take_turn(alloc, peer, Side::Peer, source, input),
+                Some(peer) => take_turn(alloc, peer, Side::Peer, source, input, spare),
                 // asked for where there is one alone
                 None => unreachable!(),
             },

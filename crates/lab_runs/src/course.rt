@@ -7,7 +7,7 @@ ghost use Rattle.lab_runs.specs.Course.{Went, Follows, BeginsWith, IsAnewAt, Are
 
 use crate::controllers::Controllers;
 use crate::simulators::Simulators;
-use crate::turn::TurnFault;
+use crate::turn::{Spare, TurnFault};
 use crate::waiting::{Arrival, Waiting};
 use bts_model::{Act, Habit, Setting};
 use cell_table::Site;
@@ -18,6 +18,7 @@ use radio_book::book::Book;
 use run_listeners::{Answer, LabFault, Listener, Source, Turn};
 use std::alloc::{AllocError, Allocator, Global};
 use std::collections::VecDeque;
+use std::mem;
 use std::sync::Arc;
 
 /// How many answers of simulators are handled for one line of a script.
@@ -32,6 +33,8 @@ pub struct Course<A: Allocator + Copy = Global> {
     simulators: Option<Simulators<A>>,
     /// What came of each input so far.
     pub turns: Vec<Turn<A>, A>,
+    /// The lists of a turn that was forgotten.
+    spare: Spare<A>,
     alloc: A,
 }
 
@@ -76,6 +79,7 @@ impl<A: Allocator + Copy> Course<A> {
             sites: sites_of(alloc, site, peer)?,
             simulators: None,
             turns: Vec::new(alloc),
+            spare: Spare::new(alloc),
             alloc,
         })
     }
@@ -92,6 +96,7 @@ impl<A: Allocator + Copy> Course<A> {
             sites: sites_of(alloc, site, None)?,
             simulators: None,
             turns: Vec::new(alloc),
+            spare: Spare::new(alloc),
             alloc,
         })
     }
@@ -104,6 +109,18 @@ impl<A: Allocator + Copy> Course<A> {
         ensures sim { has_simulators self.new ≡ has_simulators self.old }
     {
         self.controllers.begin_anew()
+    }
+
+    /// Drops what came of each input so far. The lists of the last turn serve for the next one.
+    pub fn forget_turns(&mut self)
+        ensures turns { self.new.turns.items ≡ [] }
+        ensures controllers { self.new.controllers ≡ self.old.controllers }
+        ensures sim { has_simulators self.new ≡ has_simulators self.old }
+    {
+        if let Some(turn) = self.turns.pop() {
+            self.spare = Spare::of(self.alloc, turn);
+        }
+        self.turns.clear();
     }
 
     /// Whether simulators are attached.
@@ -218,7 +235,11 @@ impl<A: Allocator + Copy> Course<A> {
         ensures sim { OnOk result (has_simulators self.new ≡ has_simulators self.old) }
     {
         self.turns.reserve(1)?;
-        let turn = match self.controllers.take_turn(self.alloc, side, source, input) {
+        let spare = mem::replace(&mut self.spare, Spare::new(self.alloc));
+        let turn = match self
+            .controllers
+            .take_turn(self.alloc, side, source, input, spare)
+        {
             Ok(turn) => turn,
             Err(fault) => return Err(tell_owed(&self.controllers, side, fault, listener)),
         };
@@ -349,6 +370,7 @@ impl<A: Allocator + Copy> Course<A> {
             controllers,
             simulators: _,
             turns,
+            spare: _,
             alloc: _,
         } = self;
         Run { turns, controllers }

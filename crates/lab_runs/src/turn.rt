@@ -6,8 +6,8 @@ ghost use Rattle.lab_runs.specs.Turns.{Answers, IsTurn};
 ghost use Rattle.lab_runs.specs.Owing.{owed_by, sent_by, Stops, Owes};
 
 use crate::noting::{Note, Noting};
-use exchange::{Fault, Inbound, Outbound};
-use ho_procedure::controller::Controller;
+use exchange::{Inbound, Outbound};
+use ho_procedure::controller::{Controller, Stop};
 use lab_script::script::Side;
 use radio_desk::desk::Desk;
 use run_listeners::{Answer, Source, Turn};
@@ -30,6 +30,39 @@ impl<A: Allocator> From<AllocError> for TurnFault<A> {
 
     fn from(_: AllocError) -> Self {
         TurnFault::NoMemory
+    }
+}
+
+/// The lists of an earlier turn. What is in them was told, and is dropped: their memory serves for a later one.
+#[derive(Drop)]
+pub struct Spare<A: Allocator = Global> {
+    sent: Vec<Outbound<A>, A>,
+    steps: Vec<Step, A>,
+}
+
+impl<A: Allocator + Copy> Spare<A> {
+    /// Lists that have no memory yet.
+    pub fn new(alloc: A) -> Spare<A> {
+        Spare {
+            sent: Vec::new(alloc),
+            steps: Vec::new(alloc),
+        }
+    }
+
+    /// Those of a turn. The messages of an input that couldn't be read had no list.
+    pub fn of(alloc: A, turn: Turn<A>) -> Spare<A> {
+        let Turn {
+            side: _,
+            source: _,
+            input: _,
+            steps,
+            answer,
+        } = turn;
+        let sent = match answer {
+            Answer::Sent(sent) => sent,
+            Answer::Undecoded(_) => Vec::new(alloc),
+        };
+        Spare { sent, steps }
     }
 }
 
@@ -73,9 +106,10 @@ fn push_entry<A: Allocator + Copy>(
     }
 }
 
-/// What was asked of a desk from its `first` event on, each event behind the notes of its place.
+/// What was asked of a desk from its `first` event on, each event behind the notes of its place. They come into a list whose
+/// steps are dropped.
 fn steps_from<A: Allocator + Copy>(
-    alloc: A,
+    spare: Vec<Step, A>,
     desk: &Desk<A>,
     notes: &[Note],
     first: usize,
@@ -84,7 +118,8 @@ fn steps_from<A: Allocator + Copy>(
     ensures steps { IfOk result (λ steps. steps.items ≡ with_notes first notes.now (drop first desk.now.history)) }
     ensures legal { Leads desk.now.opening desk.now.history desk.now.book }
 {
-    let mut steps = Vec::new(alloc);
+    let mut steps = spare;
+    steps.clear();
     for place in first..desk.len() {
         push_notes(&mut steps, notes, place)?;
         push_entry(&mut steps, desk, place)?;
@@ -93,33 +128,36 @@ fn steps_from<A: Allocator + Copy>(
     Ok(steps)
 }
 
-/// Handles an input.
+/// Handles an input. The messages come into a list of which the controller takes those back that are in it.
 fn handled<A: Allocator + Copy>(
     controller: &mut Controller<Noting<A>, A>,
     input: Inbound<A>,
+    spare: Vec<Outbound<A>, A>,
 ) -> Result<Answer<A>, TurnFault<A>>
     ensures answers { IfOk result (λ answer. Answers controller.old input answer controller.new) }
     ensures stops { IfErr result (λ fault. Stops controller.old input (owed_by fault) controller.new) }
     ensures opening { controller.new.0.desk.opening ≡ controller.old.0.desk.opening }
     ensures site { controller.new.2 ≡ controller.old.2 }
 {
-    match controller.handle(input) {
-        Ok(sent) => Ok(Answer::Sent(sent)),
-        Err(Fault::Undecoded(_, bad)) => Ok(Answer::Undecoded(bad)),
-        Err(Fault::NoMemory(messages)) => Err(TurnFault::Owed(messages)),
+    let mut sent = spare;
+    match controller.handle_into(input, &mut sent) {
+        Ok(()) => Ok(Answer::Sent(sent)),
+        Err(Stop::Undecoded(_, bad)) => Ok(Answer::Undecoded(bad)),
+        Err(Stop::NoMemory) => Err(TurnFault::Owed(sent)),
         // the desk of a view of its own knows all of its receipts
-        Err(Fault::Desk(..)) => unreachable!(),
+        Err(Stop::Desk(_)) => unreachable!(),
     }
 }
 
-/// The controller of a side handles an input; says what came of it. Where memory is refused, what was asked so far
-/// stands, and what came of it isn't said; but what it owes is.
+/// The controller of a side handles an input; says what came of it, in the lists of an earlier turn. Where memory is refused,
+/// what was asked so far stands, and what came of it isn't said; but what it owes is.
 pub fn take_turn<A: Allocator + Copy>(
     alloc: A,
     controller: &mut Controller<Noting<A>, A>,
     side: Side,
     source: Source,
     input: Inbound<A>,
+    spare: Spare<A>,
 ) -> Result<Turn<A>, TurnFault<A>>
     ensures turn { IfOk result (λ turn. IsTurn controller.old turn controller.new) }
     ensures side { IfOk result (λ turn. turn.side ≡ side) }
@@ -130,9 +168,9 @@ pub fn take_turn<A: Allocator + Copy>(
     let first = controller.view().desk().len();
     let noted = controller.view().noted();
     let given = input.copy(alloc)?;
-    let answer = handled(controller, given)?;
+    let answer = handled(controller, given, spare.sent)?;
     let view = controller.view();
-    match steps_from(alloc, view.desk(), view.notes_from(noted), first) {
+    match steps_from(spare.steps, view.desk(), view.notes_from(noted), first) {
         Ok(steps) => Ok(Turn {
             side,
             source,

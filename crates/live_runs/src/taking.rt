@@ -61,7 +61,7 @@ impl<A: Allocator + Copy> Live<A> {
             is_attach item.given || has_simulators self.old.course) }
     {
         self.course.follow(item, listener)?;
-        self.course.turns.clear();
+        self.course.forget_turns();
         Ok(())
     }
 

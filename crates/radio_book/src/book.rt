@@ -209,6 +209,7 @@ impl<A: Allocator + Copy> Book<A> {
     /// The event that is asked: the one that is named, or one on what is free. `None` says that no channel is free, as in a
     /// cell that the site lacks. Any free channel meets the contract, and any free number; this body answers the channel of the
     /// lowest TRX, then timeslot, then half, and the lowest number.
+    #[inline(always)]
     pub fn choose(&self, ask: Ask) -> Option<Event>
         ensures event { MatchOption result (NoneFor self.now ask) (λ e. IsAsked self.now ask e) }
     {
