@@ -3,7 +3,7 @@ use crate::noted::Noted;
 use cell_table::Site;
 use cell_table::limits::FIRST_OUTSIDE;
 use channel_fsm::Rate;
-use decisions::{Asked, Lack, Named, judge, named_by};
+use decisions::{Lack, LeastSums, Named, judge, named_by};
 use ho_candidates::Candidate;
 use measurements::Window;
 use radio_book::event::{Event, Reply};
@@ -24,7 +24,7 @@ pub(crate) struct Case<'a, A: Allocator + Copy> {
     /// What was asked once the report had been noted.
     pub(crate) behind: &'a [Step],
     /// What is asked of a neighbour's sum.
-    pub(crate) asked: Asked,
+    pub(crate) asked: LeastSums,
 }
 
 /// What each line of a case begins with.
@@ -77,7 +77,7 @@ impl<A: Allocator + Copy> Case<'_, A> {
                 "{head} window {count} of {width}: the report isn't valid, and doesn't count"
             );
         }
-        let Asked { margin, minimum } = self.asked;
+        let LeastSums { margin, minimum } = self.asked;
         let serving = self.window.serving_sum();
         writeln!(
             out,

@@ -11,7 +11,7 @@ use std::alloc::Allocator;
 
 /// What a cell's levels, added up over the reports that there are, have to be at least: 0 to 4,032 each.
 #[derive(Clone, Copy, Debug, PartialEq, Eq)]
-pub struct Asked {
+pub struct LeastSums {
     /// By `margin`: those of the serving cell, and `margin` more for each report.
     pub margin: u32,
     /// By `minimum`: that for each report.
@@ -41,20 +41,20 @@ pub struct Judged {
 }
 
 /// What is asked of a cell's sum, by the reports in a window that was made for as many as the site says.
-pub fn asked_of<W: Allocator, S: Allocator + Copy>(window: &Window<W>, site: &Site<S>) -> Asked
+pub fn asked_of<W: Allocator, S: Allocator + Copy>(window: &Window<W>, site: &Site<S>) -> LeastSums
     requires width { window.now.width ≡ site.now.handover.window }
     ensures asked { result ≡ asked_by window.now site.now }
 {
     let _most = site.window();
     let reports = window.len() as u32;
-    Asked {
+    LeastSums {
         margin: window.serving_sum() + u32::from(site.margin()) * reports,
         minimum: u32::from(site.minimum()) * reports,
     }
 }
 
 /// What a sum lacks of what is asked.
-fn lack_of(sum: u32, asked: Asked) -> Lack
+fn lack_of(sum: u32, asked: LeastSums) -> Lack
     ensures lack { IsLack asked sum result }
 {
     match (sum < asked.margin, sum < asked.minimum) {
@@ -73,7 +73,7 @@ pub fn judge<W: Allocator, S: Allocator + Copy>(
     site: &Site<S>,
     serving: u8,
     cell: u8,
-    asked: Asked,
+    asked: LeastSums,
 ) -> Option<Judged>
     ensures sum { IfSome result (λ judged. (position bsic : ℕ) → IsNamedCell site.now serving position bsic cell →
         judged.sum ≡ sum_named position bsic window.now.reports) }

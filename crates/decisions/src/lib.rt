@@ -6,5 +6,5 @@
 mod judged;
 mod named;
 
-pub use judged::{Asked, Judged, Lack, asked_of, judge};
+pub use judged::{Judged, Lack, LeastSums, asked_of, judge};
 pub use named::{Named, named_by};

@@ -7,15 +7,15 @@ use Rattle.rr_elements.proofs.Readers.{chan_said}
 use Rattle.rr_elements.proofs.FaultLemmas.{differs, chan-fault}
 use Rattle.rr_messages.specs.declared.fault.RrFault.{RrFault}
 use Rattle.rr_messages.specs.declared.fault.RrFault.TheVariants.{NotRr, UnknownType, Short, Element, NoMemory}
-use Rattle.rr_messages.specs.declared.kind.Kind.{Kind}
-use Rattle.rr_messages.specs.declared.kind.Kind.TheVariants as kind
+use Rattle.rr_messages.specs.declared.kind.MessageType.{MessageType}
+use Rattle.rr_messages.specs.declared.kind.MessageType.TheVariants as kind
 use Rattle.rr_messages.specs.declared.message.Rr.{Rr}
 use Rattle.rr_messages.specs.Kind.{type_of, part_len}
 use Rattle.rr_messages.specs.Rr.{IsRrText, HasPartFault, HasRrFault}
 use Rattle.rr_messages.proofs.Readers.{kind_at, command_said, part_said, body_said, in_message, rr_said}
 use Rattle.rr_messages.proofs.Texts.{command-cut, kind_at-type_of, framed-said, framed-body, text-said}
 
-no_kind : (t : ℕ) → ((k : Kind) → t ≢ type_of k) → kind_at t ≡ None
+no_kind : (t : ℕ) → ((k : MessageType) → t ≢ type_of k) → kind_at t ≡ None
 no_kind t none =
     rw (differs t _ (none kind.ChannelRelease), differs t _ (none kind.MeasurementReport), differs t _ (none kind.HandoverFailure), differs t _ (none kind.HandoverCommand), differs t _ (none kind.HandoverComplete), differs t _ (none kind.PhysicalInformation)) refl
 
@@ -31,7 +31,7 @@ command-fault first second (reference ∷ last) fault two three left bad =
     command-cut first second last reference two three (omega arith) ∙ rw (two, bad) refl
 
 -- a part with a bad element is read as that fault
-part-fault : (k : Kind) (part : List ℕ) (fault : ElementFault) → length part ≡ part_len k → HasPartFault k part fault → part_said k part ≡ Err fault
+part-fault : (k : MessageType) (part : List ℕ) (fault : ElementFault) → length part ≡ part_len k → HasPartFault k part fault → part_said k part ≡ Err fault
 part-fault kind.HandoverCommand part fault long (first, second, rest, two, three, is, bad) =
     let seven : length (first ++ second ++ rest) ≡ 7 = sym (ap length is) ∙ long in
     ap command_said is ∙ command-fault first second rest fault two three (two_left first second rest two three seven) (chan-fault second fault bad)
@@ -65,5 +65,5 @@ one_fault octets f g p q =
     cc
 
 -- what is wrong with what follows a type
-pub element-fault : (k : Kind) (body : List ℕ) (f : ElementFault) → part_len k ≤ length body → HasPartFault k (take (part_len k) body) f → HasRrFault (6 ∷ type_of k ∷ body) (Element f)
+pub element-fault : (k : MessageType) (body : List ℕ) (f : ElementFault) → part_len k ≤ length body → HasPartFault k (take (part_len k) body) f → HasRrFault (6 ∷ type_of k ∷ body) (Element f)
 element-fault k body f long bad = (k, take (part_len k) body, framed-body k body long, bad)

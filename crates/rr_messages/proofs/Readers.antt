@@ -3,18 +3,18 @@ use Rattle.std.specs.Prelude.{ℕ, ◌==◌, nat_lt, if◌then◌else◌, List, 
 use Rattle.rr_elements.proofs.Readers.{cell_said, chan_said, power_said, cause_said, results_said}
 use Rattle.rr_elements.specs.declared.fault.ElementFault.{ElementFault}
 use Rattle.rr_elements.specs.declared.fault.ElementFault.TheVariants.{Length}
-use Rattle.rr_messages.specs.declared.kind.Kind.{Kind}
-use Rattle.rr_messages.specs.declared.kind.Kind.TheVariants as kind
+use Rattle.rr_messages.specs.declared.kind.MessageType.{MessageType}
+use Rattle.rr_messages.specs.declared.kind.MessageType.TheVariants as kind
 use Rattle.rr_messages.specs.declared.fault.RrFault.{RrFault}
 use Rattle.rr_messages.specs.declared.fault.RrFault.TheVariants.{NotRr, UnknownType, Short, Element}
 use Rattle.rr_messages.specs.declared.message.Rr.{Rr}
 use Rattle.rr_messages.specs.declared.message.Rr.TheVariants.{HandoverCommand, HandoverComplete, HandoverFailure, ChannelRelease, PhysicalInformation, MeasurementReport}
 use Rattle.rr_messages.specs.Kind.{type_of, part_len}
 
-abbrev pub kinds : List Kind
+abbrev pub kinds : List MessageType
 kinds = kind.ChannelRelease ∷ kind.MeasurementReport ∷ kind.HandoverFailure ∷ kind.HandoverCommand ∷ kind.HandoverComplete ∷ kind.PhysicalInformation ∷ []
 
-abbrev pub kind_at : ℕ → Option Kind
+abbrev pub kind_at : ℕ → Option MessageType
 kind_at octet = find (λ k. octet == type_of k) kinds
 
 infixl 10 ◌>>=◌
@@ -31,7 +31,7 @@ abbrev pub advance_said : List ℕ → Result Rr ElementFault
 advance_said (advance ∷ []) = Ok (PhysicalInformation advance)
 advance_said _ = Err Length
 
-abbrev pub part_said : Kind → List ℕ → Result Rr ElementFault
+abbrev pub part_said : MessageType → List ℕ → Result Rr ElementFault
 part_said kind.ChannelRelease part = cause_said part >>= λ cause. Ok (ChannelRelease cause)
 part_said kind.MeasurementReport part = results_said part >>= λ results. Ok (MeasurementReport results)
 part_said kind.HandoverFailure part = cause_said part >>= λ cause. Ok (HandoverFailure cause)
@@ -43,7 +43,7 @@ abbrev pub in_message : Result Rr ElementFault → Result Rr RrFault
 in_message (Ok v) = Ok v
 in_message (Err fault) = Err (Element fault)
 
-abbrev pub body_said : ℕ → Option Kind → List ℕ → Result Rr RrFault
+abbrev pub body_said : ℕ → Option MessageType → List ℕ → Result Rr RrFault
 body_said octet None body = Err (UnknownType octet)
 body_said octet (Some k) body =
     if nat_lt (length body) (part_len k) then Err Short else in_message (part_said k (take (part_len k) body))

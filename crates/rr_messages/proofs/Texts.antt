@@ -9,8 +9,8 @@ use Rattle.rr_elements.proofs.Readers.{cell_said, chan_said, power_said}
 use Rattle.rr_elements.proofs.ElementLemmas.{cell-said, chan-said, power-said, cause-said, cell-text, chan-text, power-text, cause-text}
 use Rattle.rr_elements.proofs.ResultsLemmas.{text-said as results-said}
 use Rattle.rr_elements.proofs.ResultsTexts.{results-text}
-use Rattle.rr_messages.specs.declared.kind.Kind.{Kind}
-use Rattle.rr_messages.specs.declared.kind.Kind.TheVariants as kind
+use Rattle.rr_messages.specs.declared.kind.MessageType.{MessageType}
+use Rattle.rr_messages.specs.declared.kind.MessageType.TheVariants as kind
 use Rattle.rr_messages.specs.declared.message.Rr.{Rr}
 use Rattle.rr_messages.specs.declared.message.Rr.TheVariants.{HandoverCommand, HandoverComplete, HandoverFailure, ChannelRelease, PhysicalInformation, MeasurementReport}
 use Rattle.rr_messages.specs.Kind.{type_of, part_len}
@@ -58,7 +58,7 @@ part-len (ChannelRelease cause) part p = octets_of_bits 1 _ p.len
 part-len (PhysicalInformation advance) part p = ap length p
 part-len (MeasurementReport results) part p = octets_of_bits 16 _ p.fields.len
 
-pub kind_at-type_of : (k : Kind) → kind_at (type_of k) ≡ Some k
+pub kind_at-type_of : (k : MessageType) → kind_at (type_of k) ≡ Some k
 kind_at-type_of kind.ChannelRelease = refl
 kind_at-type_of kind.MeasurementReport = refl
 kind_at-type_of kind.HandoverFailure = refl
@@ -69,7 +69,7 @@ kind_at-type_of kind.PhysicalInformation = refl
 not_below : (a b : ℕ) → b ≤ a → nat_lt a b ≡ false
 not_below a b h = grind (arith, nat_tests)
 
-body-said : (t : ℕ) (k : Kind) (part rest : List ℕ) → length part ≡ part_len k → body_said t (Some k) (part ++ rest) ≡ in_message (part_said k part)
+body-said : (t : ℕ) (k : MessageType) (part rest : List ℕ) → length part ≡ part_len k → body_said t (Some k) (part ++ rest) ≡ in_message (part_said k part)
 body-said t k part rest long =
     let total : length (part ++ rest) ≡ length part + length rest = length-append part rest in
     let cut : nat_lt (length (part ++ rest)) (part_len k) ≡ false = not_below _ _ (omega arith) in
@@ -77,7 +77,7 @@ body-said t k part rest long =
     rw (cut, front) refl
 
 -- what framed octets say is what the part says
-pub framed-said : (k : Kind) (part octets : List ℕ) → IsFramed k part octets → rr_said octets ≡ in_message (part_said k part)
+pub framed-said : (k : MessageType) (part octets : List ℕ) → IsFramed k part octets → rr_said octets ≡ in_message (part_said k part)
 framed-said k part octets framed =
     let body = part ++ framed.rest in
     ap rr_said framed.octets_are ∙ ap (λ found. body_said (type_of k) found body) (kind_at-type_of k) ∙ body-said (type_of k) k part framed.rest framed.len
@@ -101,12 +101,12 @@ text-is v part =
     (part_text v, record { rest = []; len = long; octets_are = same }, part)
 
 -- what follows a type is framed where the part is whole
-pub framed-body : (k : Kind) (body : List ℕ) → part_len k ≤ length body → IsFramed k (take (part_len k) body) (6 ∷ type_of k ∷ body)
+pub framed-body : (k : MessageType) (body : List ℕ) → part_len k ≤ length body → IsFramed k (take (part_len k) body) (6 ∷ type_of k ∷ body)
 framed-body k body long =
     let n = part_len k in
     record { rest = drop n body; len = length-take-le n body long; octets_are = ap (λ octets. 6 ∷ type_of k ∷ octets) (sym (take-append-drop n body)) }
 
-pub body-text : (v : Rr) (k : Kind) (body : List ℕ) → kind_of v ≡ k → part_len k ≤ length body → IsPart v (take (part_len k) body) → IsRrText v (6 ∷ type_of k ∷ body)
+pub body-text : (v : Rr) (k : MessageType) (body : List ℕ) → kind_of v ≡ k → part_len k ≤ length body → IsPart v (take (part_len k) body) → IsRrText v (6 ∷ type_of k ∷ body)
 body-text v k body same long is = (take (part_len k) body, rw same (framed-body k body long), is)
 
 -- each value that fits has a text

@@ -6,8 +6,8 @@ use Rattle.rr_elements.specs.Power.{PowerFits, IsPowerText, power_text}
 use Rattle.rr_elements.specs.RrCause.{IsCauseText, cause_text}
 use Rattle.rr_elements.specs.MeasResults.{ResultsFit, IsResultsText, results_text}
 use Rattle.rr_elements.specs.declared.fault.ElementFault.{ElementFault}
-use Rattle.rr_messages.specs.declared.kind.Kind.{Kind}
-use Rattle.rr_messages.specs.declared.kind.Kind.TheVariants as kind
+use Rattle.rr_messages.specs.declared.kind.MessageType.{MessageType}
+use Rattle.rr_messages.specs.declared.kind.MessageType.TheVariants as kind
 use Rattle.rr_messages.specs.declared.fault.RrFault.{RrFault}
 use Rattle.rr_messages.specs.declared.fault.RrFault.TheVariants.{NotRr, UnknownType, Short, Element, NoMemory}
 use Rattle.rr_messages.specs.declared.message.Rr.{Rr}
@@ -15,7 +15,7 @@ use Rattle.rr_messages.specs.declared.message.Rr.TheVariants.{HandoverCommand, H
 use Rattle.rr_messages.specs.Kind.{type_of, part_len}
 
 -- the message type of a value
-abbrev pub kind_of : Rr → Kind
+abbrev pub kind_of : Rr → MessageType
 kind_of (HandoverCommand cell channel reference power) = kind.HandoverCommand
 kind_of (HandoverComplete cause) = kind.HandoverComplete
 kind_of (HandoverFailure cause) = kind.HandoverFailure
@@ -38,7 +38,7 @@ abbrev pub radio_resources : ℕ
 radio_resources = 6
 
 -- the octets are the discriminator, a type, a mandatory part of its length, and any rest
-pub record IsFramed (k : Kind) (part octets : List ℕ) : Type 0 where
+pub record IsFramed (k : MessageType) (part octets : List ℕ) : Type 0 where
   pub rest : List ℕ
   pub len : length part ≡ part_len k
   pub octets_are : octets ≡ radio_resources ∷ type_of k ∷ part ++ rest
@@ -75,7 +75,7 @@ Fits (MeasurementReport results) = ResultsFit results
 
 -- The part has a bad element. No element of a part of its length is bad but the channel, the second
 -- element of a handover command, which comes after the two octets of the cell.
-abbrev pub HasPartFault : Kind → List ℕ → ElementFault → Type 0
+abbrev pub HasPartFault : MessageType → List ℕ → ElementFault → Type 0
 HasPartFault kind.HandoverCommand part fault =
     (first second rest : List ℕ) × (length first ≡ 2) × (length second ≡ 3) × (part ≡ first ++ second ++ rest) × HasChanFault second fault
 HasPartFault kind.ChannelRelease part fault = ⊥
@@ -88,7 +88,7 @@ HasPartFault kind.PhysicalInformation part fault = ⊥
 -- that no message has; a bad element in the part. Memory is never refused.
 abbrev pub HasRrFault : List ℕ → RrFault → Type 0
 HasRrFault octets NotRr = (octets ≡ []) ⊎ ((d : ℕ) × (rest : List ℕ) × (octets ≡ d ∷ rest) × (d ≢ radio_resources))
-HasRrFault octets Short = (octets ≡ radio_resources ∷ []) ⊎ ((k : Kind) × (body : List ℕ) × (octets ≡ radio_resources ∷ type_of k ∷ body) × (length body < part_len k))
-HasRrFault octets (UnknownType t) = (body : List ℕ) × (octets ≡ radio_resources ∷ t ∷ body) × ((k : Kind) → t ≢ type_of k)
-HasRrFault octets (Element fault) = (k : Kind) × (part : List ℕ) × IsFramed k part octets × HasPartFault k part fault
+HasRrFault octets Short = (octets ≡ radio_resources ∷ []) ⊎ ((k : MessageType) × (body : List ℕ) × (octets ≡ radio_resources ∷ type_of k ∷ body) × (length body < part_len k))
+HasRrFault octets (UnknownType t) = (body : List ℕ) × (octets ≡ radio_resources ∷ t ∷ body) × ((k : MessageType) → t ≢ type_of k)
+HasRrFault octets (Element fault) = (k : MessageType) × (part : List ℕ) × IsFramed k part octets × HasPartFault k part fault
 HasRrFault octets NoMemory = ⊥

@@ -17,7 +17,7 @@ const PHYSICAL_INFORMATION: u8 = 0x2D;
 
 /// The type of a message.
 #[derive(Clone, Copy, Debug, PartialEq, Eq)]
-pub(crate) enum Kind {
+pub(crate) enum MessageType {
     ChannelRelease,
     MeasurementReport,
     HandoverFailure,
@@ -26,19 +26,19 @@ pub(crate) enum Kind {
     PhysicalInformation,
 }
 
-impl Kind {
+impl MessageType {
     /// The type with this octet, if there is one.
-    pub(crate) fn at(octet: u8) -> Option<Kind>
+    pub(crate) fn at(octet: u8) -> Option<MessageType>
         ensures some { IfSome result (λ kind. type_of kind ≡ octet) }
-        ensures none { IfNone result ((kind : Kind) → octet ≢ type_of kind) }
+        ensures none { IfNone result ((kind : MessageType) → octet ≢ type_of kind) }
     {
         match octet {
-            CHANNEL_RELEASE => Some(Kind::ChannelRelease),
-            MEASUREMENT_REPORT => Some(Kind::MeasurementReport),
-            HANDOVER_FAILURE => Some(Kind::HandoverFailure),
-            HANDOVER_COMMAND => Some(Kind::HandoverCommand),
-            HANDOVER_COMPLETE => Some(Kind::HandoverComplete),
-            PHYSICAL_INFORMATION => Some(Kind::PhysicalInformation),
+            CHANNEL_RELEASE => Some(MessageType::ChannelRelease),
+            MEASUREMENT_REPORT => Some(MessageType::MeasurementReport),
+            HANDOVER_FAILURE => Some(MessageType::HandoverFailure),
+            HANDOVER_COMMAND => Some(MessageType::HandoverCommand),
+            HANDOVER_COMPLETE => Some(MessageType::HandoverComplete),
+            PHYSICAL_INFORMATION => Some(MessageType::PhysicalInformation),
             _ => None,
         }
     }
@@ -48,12 +48,12 @@ impl Kind {
         ensures { result ≡ type_of self }
     {
         match self {
-            Kind::ChannelRelease => CHANNEL_RELEASE,
-            Kind::MeasurementReport => MEASUREMENT_REPORT,
-            Kind::HandoverFailure => HANDOVER_FAILURE,
-            Kind::HandoverCommand => HANDOVER_COMMAND,
-            Kind::HandoverComplete => HANDOVER_COMPLETE,
-            Kind::PhysicalInformation => PHYSICAL_INFORMATION,
+            MessageType::ChannelRelease => CHANNEL_RELEASE,
+            MessageType::MeasurementReport => MEASUREMENT_REPORT,
+            MessageType::HandoverFailure => HANDOVER_FAILURE,
+            MessageType::HandoverCommand => HANDOVER_COMMAND,
+            MessageType::HandoverComplete => HANDOVER_COMPLETE,
+            MessageType::PhysicalInformation => PHYSICAL_INFORMATION,
         }
     }
 
@@ -62,12 +62,12 @@ impl Kind {
         ensures { result ≡ part_len self }
     {
         match self {
-            Kind::MeasurementReport => 16,
-            Kind::HandoverCommand => 7,
-            Kind::ChannelRelease
-            | Kind::HandoverFailure
-            | Kind::HandoverComplete
-            | Kind::PhysicalInformation => 1,
+            MessageType::MeasurementReport => 16,
+            MessageType::HandoverCommand => 7,
+            MessageType::ChannelRelease
+            | MessageType::HandoverFailure
+            | MessageType::HandoverComplete
+            | MessageType::PhysicalInformation => 1,
         }
     }
 }

@@ -1,7 +1,7 @@
 //! Radio resource messages.
 ghost use Rattle.std.specs.Prelude.{◌≡◌};
 
-use crate::kind::Kind;
+use crate::kind::MessageType;
 use rr_elements::{CellDescription, ChanDescription, MeasResults, Power, RrCause};
 
 /// A radio resource message (TS 44.018 section 9.1), by the fields of its mandatory part.
@@ -31,16 +31,16 @@ impl Rr {
     ghost use Rattle.rr_messages.specs.Rr.{kind_of};
 
     /// The type of the message.
-    pub(crate) fn kind(&self) -> Kind
+    pub(crate) fn kind(&self) -> MessageType
         ensures { result ≡ kind_of self.now }
     {
         match self {
-            Rr::HandoverCommand { .. } => Kind::HandoverCommand,
-            Rr::HandoverComplete(_) => Kind::HandoverComplete,
-            Rr::HandoverFailure(_) => Kind::HandoverFailure,
-            Rr::ChannelRelease(_) => Kind::ChannelRelease,
-            Rr::PhysicalInformation(_) => Kind::PhysicalInformation,
-            Rr::MeasurementReport(_) => Kind::MeasurementReport,
+            Rr::HandoverCommand { .. } => MessageType::HandoverCommand,
+            Rr::HandoverComplete(_) => MessageType::HandoverComplete,
+            Rr::HandoverFailure(_) => MessageType::HandoverFailure,
+            Rr::ChannelRelease(_) => MessageType::ChannelRelease,
+            Rr::PhysicalInformation(_) => MessageType::PhysicalInformation,
+            Rr::MeasurementReport(_) => MessageType::MeasurementReport,
         }
     }
 }

@@ -4,10 +4,10 @@ ghost use Rattle.rr_elements.specs.MeasResults.{IsResultsText};
 ghost use Rattle.rr_elements.specs.RrCause.{IsCauseText};
 ghost use Rattle.rr_messages.specs.Kind.{type_of, part_len};
 ghost use Rattle.rr_messages.specs.Rr.{IsRrText, HasRrFault, radio_resources};
-ghost use Rattle.rr_messages.specs.declared.kind.Kind.TheVariants.{HandoverCommand as CommandKind};
+ghost use Rattle.rr_messages.specs.declared.kind.MessageType.TheVariants.{HandoverCommand as CommandKind};
 
 use crate::fault::RrFault;
-use crate::kind::Kind;
+use crate::kind::MessageType;
 use crate::message::Rr;
 use rr_elements::{CellDescription, ChanDescription, MeasResults, Power, RrCause};
 
@@ -15,7 +15,7 @@ use rr_elements::{CellDescription, ChanDescription, MeasResults, Power, RrCause}
 pub(crate) const RADIO_RESOURCES: u8 = 6;
 
 // The mandatory part, with which what follows the type begins.
-fn part(kind: Kind, body: &[u8]) -> Result<&[u8], RrFault>
+fn part(kind: MessageType, body: &[u8]) -> Result<&[u8], RrFault>
     ensures part { IfOk result (λ part. part.now ≡ take (part_len kind) body.now) }
     ensures long { IfOk result (λ _. part_len kind ≤ length body.now) }
     ensures fault { IfErr result (λ f. (f ≡ RrFault.Short) × (length body.now < part_len kind)) }
@@ -28,7 +28,7 @@ fn part(kind: Kind, body: &[u8]) -> Result<&[u8], RrFault>
 }
 
 // The cause that is the mandatory part of a message of this type.
-fn cause(kind: Kind, body: &[u8]) -> Result<RrCause, RrFault>
+fn cause(kind: MessageType, body: &[u8]) -> Result<RrCause, RrFault>
     requires { part_len kind ≡ 1 }
     ensures part { IfOk result (λ v. IsCauseText v (take 1 body.now)) }
     ensures long { IfOk result (λ _. 1 ≤ length body.now) }
@@ -42,7 +42,7 @@ fn command(body: &[u8]) -> Result<Rr, RrFault>
         (λ v. IsRrText v (radio_resources ∷ type_of CommandKind ∷ body.now)) }
     ensures fault { IfErr result (HasRrFault (radio_resources ∷ type_of CommandKind ∷ body.now)) }
 {
-    let part = part(Kind::HandoverCommand, body)?;
+    let part = part(MessageType::HandoverCommand, body)?;
     let [cell1, cell2, chan1, chan2, chan3, reference, power] = part else {
         return Err(RrFault::Short);
     };
@@ -65,21 +65,21 @@ fn results(body: &[u8]) -> Result<MeasResults, RrFault>
     ensures long { IfOk result (λ _. 16 ≤ length body.now) }
     ensures fault { IfErr result (λ f. (f ≡ RrFault.Short) × (length body.now < 16)) }
 {
-    Ok(MeasResults::decode(part(Kind::MeasurementReport, body)?)?)
+    Ok(MeasResults::decode(part(MessageType::MeasurementReport, body)?)?)
 }
 
 // The message of this type. Each mandatory part is cut where its type is known, so that its length is too.
-fn message(kind: Kind, body: &[u8]) -> Result<Rr, RrFault>
+fn message(kind: MessageType, body: &[u8]) -> Result<Rr, RrFault>
     ensures text { IfOk result (λ v. IsRrText v (radio_resources ∷ type_of kind ∷ body.now)) }
     ensures fault { IfErr result (HasRrFault (radio_resources ∷ type_of kind ∷ body.now)) }
 {
     match kind {
-        Kind::ChannelRelease => Ok(Rr::ChannelRelease(cause(kind, body)?)),
-        Kind::MeasurementReport => Ok(Rr::MeasurementReport(results(body)?)),
-        Kind::HandoverFailure => Ok(Rr::HandoverFailure(cause(kind, body)?)),
-        Kind::HandoverCommand => command(body),
-        Kind::HandoverComplete => Ok(Rr::HandoverComplete(cause(kind, body)?)),
-        Kind::PhysicalInformation => {
+        MessageType::ChannelRelease => Ok(Rr::ChannelRelease(cause(kind, body)?)),
+        MessageType::MeasurementReport => Ok(Rr::MeasurementReport(results(body)?)),
+        MessageType::HandoverFailure => Ok(Rr::HandoverFailure(cause(kind, body)?)),
+        MessageType::HandoverCommand => command(body),
+        MessageType::HandoverComplete => Ok(Rr::HandoverComplete(cause(kind, body)?)),
+        MessageType::PhysicalInformation => {
             let [advance] = part(kind, body)? else {
                 return Err(RrFault::Short);
             };
@@ -89,7 +89,7 @@ fn message(kind: Kind, body: &[u8]) -> Result<Rr, RrFault>
 }
 
 // The type of a message, and what follows it.
-fn head(octets: &[u8]) -> Result<(Kind, &[u8]), RrFault>
+fn head(octets: &[u8]) -> Result<(MessageType, &[u8]), RrFault>
     ensures ok { IfOk result (λ x. octets.now ≡ radio_resources ∷ type_of x.0 ∷ x.1.now) }
     ensures fault { IfErr result (HasRrFault octets.now) }
 {
@@ -98,7 +98,7 @@ fn head(octets: &[u8]) -> Result<(Kind, &[u8]), RrFault>
         return Err(RrFault::NotRr);
     }
     let (octet, body) = octets.split_first().ok_or(RrFault::Short)?;
-    let kind = Kind::at(*octet).ok_or(RrFault::UnknownType(*octet))?;
+    let kind = MessageType::at(*octet).ok_or(RrFault::UnknownType(*octet))?;
     Ok((kind, body))
 }
 

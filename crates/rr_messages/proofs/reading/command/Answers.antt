@@ -2,7 +2,7 @@ use Rattle.std.proofs.Common.{◌≡◌, ◌∙◌, sym, rules, length, take, �
 use Rattle.rr_elements.specs.ChanDescription.{HasChanFault}
 use Rattle.rr_messages.specs.declared.fault.RrFault.TheVariants.{Element}
 use Rattle.rr_messages.specs.declared.message.Rr.TheVariants.{HandoverCommand}
-use Rattle.rr_messages.specs.declared.kind.Kind.TheVariants as kind
+use Rattle.rr_messages.specs.declared.kind.MessageType.TheVariants as kind
 use Rattle.rr_messages.proofs.Faults.{element-fault}
 use Rattle.rr_messages.proofs.Texts.{seven_octets, body-text}
 use Rattle.rr_messages.proofs.reading.command.Goals as goal

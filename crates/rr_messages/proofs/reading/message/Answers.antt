@@ -1,6 +1,6 @@
 use Rattle.std.proofs.Common.{refl}
 use Rattle.rr_messages.specs.declared.message.Rr.TheVariants.{MeasurementReport}
-use Rattle.rr_messages.specs.declared.kind.Kind.TheVariants as kind
+use Rattle.rr_messages.specs.declared.kind.MessageType.TheVariants as kind
 use Rattle.rr_messages.proofs.Texts.{body-text}
 use Rattle.rr_messages.proofs.reading.message.Goals as goal
 
