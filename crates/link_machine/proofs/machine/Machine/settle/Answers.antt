@@ -1,0 +1,21 @@
+use Rattle.std.proofs.Common.{◌≡◌, ◌++◌, List, OnOk, subst, sym}
+use Rattle.link_machine.specs.declared.calls.CallFacts.{CallFacts}
+use Rattle.link_machine.specs.declared.pass.Pass.TheVariants.{Turn}
+use Rattle.link_machine.specs.Laws.{AllAgree}
+use Rattle.link_machine.specs.Machine.{all_moved, all_done}
+use Rattle.link_machine.specs.Passes.{passed}
+use Rattle.link_machine.proofs.Agreeing.{each_settled}
+use Rattle.link_machine.proofs.Walks.{on_ok}
+use Rattle.link_machine.proofs.machine.Machine.settle.Goals as goal
+
+pub returns-clause-done : goal.returns-clause-done
+returns-clause-done g c =
+    subst (λ (calls : List CallFacts). OnOk c.go_through.result (c.go_through.new.out.items ≡ c.args.out.now.items ++ all_done (passed c.args.book.now calls (Turn c.args.turn)) c.args.self.now.channels.items))
+    c.deref.ensures.value c.go_through.ensures.done
+
+pub returns-clause-agree : goal.returns-clause-agree
+returns-clause-agree g c =
+    on_ok (c.go_through.new.channels.items ≡ all_moved (passed c.args.book.now c.deref.result.now (Turn c.args.turn)) c.args.self.now.channels.items)
+    (AllAgree c.args.book.now c.go_through.new.channels.items) c.go_through.result
+    (λ same. subst (AllAgree c.args.book.now) (sym same) (each_settled c.args.book.now c.deref.result.now c.args.turn c.args.self.now.channels.items))
+    c.go_through.ensures.channels

@@ -1,0 +1,4 @@
+pub mod Heads
+pub mod Types
+pub mod Messages
+pub mod Texts
