@@ -18,7 +18,7 @@ use Rattle.bssmap_messages.proofs.Written.{writable, writable_of}
 use Rattle.encoded_messages.specs.declared.field_fault.Allowed.TheVariants as may
 use Rattle.encoded_messages.specs.FieldFaults.{Read as FieldRead, ◌>>=◌, read_map}
 use Rattle.encoded_messages.specs.Faults.{Fault, Read, in_fields}
-use Rattle.encoded_messages.specs.Fields.{name_of, fields_of, only_keys, number_at, flag_at, optional_octet_at, octets_at}
+use Rattle.encoded_messages.specs.Fields.{name_of, fields_of, only_keys, cause_at, flag_at, optional_octet_at, octets_at}
 use Rattle.encoded_messages.specs.Words.{parts_of}
 use Rattle.encoded_messages.specs.Values as value
 use Rattle.encoded_messages.specs.A.{cell_of, cell_at, cells_of, cells_at, classmark_of, classmark_at, classmark_len, request_cells, request_keys, handover_request, handover_required, layer3_alone, handover_complete, handover_failure, handover_performed, cause_alone, no_fields, short_message, message_of, message_in, can_be_written, can_be_written_of, can_be_written_in, octets_of_message, octets_said, short_layer3}
@@ -151,7 +151,7 @@ request_alike A fields =
 required_alike : (A : Type 0) (fields : List ℕ) → Alike (Same {A = A}) (handover_required fields) (handover_required fields)
 unfolding handover_required
 required_alike A fields =
-    past Same (only_keys (codes "cause" ∷ codes "response" ∷ codes "cells" ∷ []) fields) _ _ (after Same (number_at 255 (codes "cause") fields) _ _ (λ cause _.
+    past Same (only_keys (codes "cause" ∷ codes "response" ∷ codes "cells" ∷ []) fields) _ _ (after Same (cause_at (codes "cause") fields) _ _ (λ cause _.
     after Same (flag_at (codes "response") fields) _ _ (λ response _.
     after Same (cells_at fields) _ _ (λ cells are. (refl, have_areas fields cells are)))))
 
@@ -163,13 +163,13 @@ complete_alike A fields =
 failure_alike : (A : Type 0) (fields : List ℕ) → Alike (Short {A = A}) (handover_failure fields) (handover_failure fields)
 unfolding handover_failure
 failure_alike A fields =
-    past Short (only_keys (codes "cause" ∷ codes "rr" ∷ []) fields) _ _ (after Short (number_at 255 (codes "cause") fields) _ _ (λ cause _.
+    past Short (only_keys (codes "cause" ∷ codes "rr" ∷ []) fields) _ _ (after Short (cause_at (codes "cause") fields) _ _ (λ cause _.
     after Short (optional_octet_at (codes "rr") fields) _ _ (λ rr _. (refl, tt, refl))))
 
 performed_alike : (A : Type 0) (fields : List ℕ) → Alike (Short {A = A}) (handover_performed fields) (handover_performed fields)
 unfolding handover_performed
 performed_alike A fields =
-    past Short (only_keys (codes "cause" ∷ codes "cell" ∷ []) fields) _ _ (after Short (number_at 255 (codes "cause") fields) _ _ (λ cause _.
+    past Short (only_keys (codes "cause" ∷ codes "cell" ∷ []) fields) _ _ (after Short (cause_at (codes "cause") fields) _ _ (λ cause _.
     after Short (cell_at (codes "cell") fields) _ _ (λ cell is. (refl, has_area (codes "cell") fields cell is, refl))))
 
 detect_alike : (A : Type 0) (fields : List ℕ) → Alike (Short {A = A}) (no_fields fields HandoverDetect) (no_fields fields HandoverDetect)

@@ -1,5 +1,5 @@
 -- Facts of the messages on Abis that texts say: whatever the allocator, a text says the same, and when that can be written.
-use Rattle.std.proofs.Common.{◌≡◌, ℕ, ◌<◌, ◌≤◌, ◌/◌, ◌%◌, ◌∷◌, ◌++◌, ◌↔◌, Bool, true, false, if◌then◌else◌, List, [], length, length-append, codes, Option, Some, None, option_and_then, IfSome, Ok, Err, is_some, is_ok, refl, sym, subst, ap, ◌∙◌, arith, inl, inr}
+use Rattle.std.proofs.Common.{◌≡◌, ℕ, ◌<◌, ◌≤◌, ◌/◌, ◌%◌, ◌∷◌, ◌++◌, ◌↔◌, ◌&&◌, nat_le, Bool, true, false, if◌then◌else◌, List, [], length, length-append, codes, Option, Some, None, option_and_then, IfSome, Ok, Err, is_some, is_ok, refl, sym, subst, ap, ◌∙◌, arith, inl, inr}
 use Rattle.std.specs.Prelude.{bytes_eq}
 use Rattle.std.specs.Result.{result_ok}
 use Rattle.std.proofs.lemmas.Bool.{cases_Bool}
@@ -11,9 +11,15 @@ use Rattle.rsl_messages.specs.declared.message.Rsl.TheVariants.{DataRequest, Dat
 use Rattle.rsl_messages.specs.Texts.{HasCanonical, canonical_text}
 use Rattle.rsl_messages.proofs.Written.{canonical_of, writable_of}
 use Rattle.encoded_messages.specs.FieldFaults.{Read as FieldRead, ◌>>=◌, read_map}
-use Rattle.encoded_messages.specs.Faults.{Fault, Read, in_fields}
-use Rattle.encoded_messages.specs.Fields.{name_of, fields_of, only_keys, number_at, traffic_channel_at, optional_octet_at, octets_at, optional_octets_at}
-use Rattle.encoded_messages.specs.Abis.{channel, data_request, data_indication, activation_keys, activation, activation_ack, cause, detection, measurement_keys, measurement, channel_alone, short_message, message_of, message_in, can_be_written, can_be_written_of, can_be_written_in, octets_of_message, octets_said}
+use Rattle.encoded_messages.specs.Faults.{Fault, Read, in_fields, as_layer3}
+use Rattle.encoded_messages.specs.Faults as fault
+use Rattle.encoded_messages.specs.Fields.{name_of, fields_of, only_keys, number_at, cause_at, traffic_channel_at, optional_octet_at, octets_at, optional_octets_at}
+use Rattle.encoded_messages.specs.Abis.{channel, data_request, data_indication, activation_keys, activation, activation_ack, cause, detection, measurement_keys, measurement, channel_alone, short_message, message_of, data_head, measurement_keys_with, measurement_with, message_with, in_parts, message_in, can_be_written, can_be_written_of, can_be_written_in, octets_of_message, octets_said}
+use Rattle.encoded_messages.specs.Words.{around_semicolon}
+use Rattle.encoded_messages.specs.Rr as rr
+use Rattle.rr_messages.specs.declared.message.Rr.{Rr}
+use Rattle.rr_messages.specs.Rr.{rr_text}
+use Rattle.encoded_messages.proofs.RrLemmas.{rr_long, rr_short}
 use Rattle.encoded_messages.proofs.ReadLemmas.{Alike, after, past, made, chosen, of_fields, weaker, both_read, behind, channel_low, octets_long, optional_octets_long}
 
 -- a message, its lists from no allocator
@@ -67,9 +73,9 @@ low fields c h = by (traffic_channel_at (codes "tn") fields) refl h
 cause_low : (fields : List ℕ) (c : ChanBits × ℕ) → cause fields ≡ Ok c → c.0.tn < 8
 unfolding cause
 cause_low fields c h =
-    let read = behind (only_keys (codes "tn" ∷ codes "cause" ∷ []) fields) (channel fields >>= (λ channel. number_at 255 (codes "cause") fields >>= (λ cause. Ok (channel, cause)))) c h in
-    let (channel, first, more) = both_read (channel fields) (λ channel. number_at 255 (codes "cause") fields >>= (λ cause. Ok (channel, cause))) c read in
-    let (cause, _, is) = both_read (number_at 255 (codes "cause") fields) (λ cause. Ok (channel, cause)) c more in
+    let read = behind (only_keys (codes "tn" ∷ codes "cause" ∷ []) fields) (channel fields >>= (λ channel. cause_at (codes "cause") fields >>= (λ cause. Ok (channel, cause)))) c h in
+    let (channel, first, more) = both_read (channel fields) (λ channel. cause_at (codes "cause") fields >>= (λ cause. Ok (channel, cause))) c read in
+    let (cause, _, is) = both_read (cause_at (codes "cause") fields) (λ cause. Ok (channel, cause)) c more in
     let same : channel ≡ c.0 = cc in
     subst (λ channel. channel.tn < 8) same (low fields channel first)
 
@@ -140,6 +146,38 @@ alike A name fields =
     chosen Same (bytes_eq name (codes "CHANNEL ACTIVATION")) _ _ _ _ (of_fields Same _ _ (activation_alike A fields)) (
     chosen Same (bytes_eq name (codes "MEASUREMENT RESULT")) _ _ _ _ (of_fields Same _ _ (measurement_alike A fields)) (weaker Short Same (λ v w h. (h.0, h.1)) _ _ (short_alike A name fields)))))
 
+-- What stands beside the layer 3 of a message.
+data_low : (fields : List ℕ) (d : ChanBits × ℕ) → data_head fields ≡ Ok d → d.0.tn < 8
+unfolding data_head
+data_low fields d h =
+    let read = behind (only_keys (codes "tn" ∷ codes "link" ∷ []) fields) (channel fields >>= (λ channel. number_at 255 (codes "link") fields >>= (λ link. Ok (channel, link)))) d h in
+    let (channel, first, more) = both_read (channel fields) (λ channel. number_at 255 (codes "link") fields >>= (λ link. Ok (channel, link))) d read in
+    let (link, _, is) = both_read (number_at 255 (codes "link") fields) (λ link. Ok (channel, link)) d more in
+    let same : channel ≡ d.0 = cc in
+    subst (λ channel. channel.tn < 8) same (low fields channel first)
+
+measurement_with_alike : (A : Type 0) (layer3 fields : List ℕ) → 1 ≤ length layer3 → Alike (Same {A = A}) (measurement_with layer3 fields) (measurement_with layer3 fields)
+unfolding measurement_with
+measurement_with_alike A layer3 fields long =
+    past Same (only_keys measurement_keys_with fields) _ _ (after Same (channel fields) _ _ (λ c at.
+    after Same (number_at 255 (codes "number") fields) _ _ (λ number _.
+    after Same (octets_at 0 (codes "uplink") fields) _ _ (λ uplink _.
+    after Same (number_at 255 (codes "power") fields) _ _ (λ power _. (refl, (low fields c at, long)))))))
+
+with_alike : (A : Type 0) (name fields layer3 : List ℕ) → 1 ≤ length layer3 → Alike (Same {A = A}) (message_with name fields layer3) (message_with name fields layer3)
+unfolding message_with
+with_alike A name fields layer3 long =
+    chosen Same (bytes_eq name (codes "DATA REQUEST")) _ _ _ _ (of_fields Same _ _ (made Same _ _ (data_head fields) (λ d is. (refl, (data_low fields d is, long))))) (
+    chosen Same (bytes_eq name (codes "DATA INDICATION")) _ _ _ _ (of_fields Same _ _ (made Same _ _ (data_head fields) (λ d is. (refl, (data_low fields d is, long))))) (
+    chosen Same (bytes_eq name (codes "MEASUREMENT RESULT")) _ _ _ _ (of_fields Same _ _ (measurement_with_alike A layer3 fields long)) refl))
+
+text_alike : (A : Type 0) (text : List ℕ) → Alike (Same {A = A}) (message_in text) (message_in text)
+text_alike A text = by (around_semicolon text)
+  where
+    by : (parts : Option (List ℕ × List ℕ)) → Alike (Same {A = A}) (in_parts text parts) (in_parts text parts)
+    by None = alike A (name_of text) (fields_of text)
+    by (Some (front, words)) = after Same (as_layer3 (rr.message_in words)) _ _ (λ layer3 _. with_alike A (name_of front) (fields_of front) (rr_text layer3) (rr_long layer3))
+
 -- What is read can be written just where it has a canonical text.
 written : {A : Type 0} (v : Rsl A) → AreRead v → (can_be_written v ≡ true) ↔ HasCanonical v
 written (DataRequest c link layer3) h = let long = length-append layer3 [] in
@@ -202,17 +240,17 @@ is_wrong A e (Err f) h = refl
 -- the octets that a text says: those of its message, whatever the allocator
 pub said_octets : {A : Type 0} (text : List ℕ) (v : Rsl A) → message_in text ≡ Ok v → HasCanonical v → octets_said text ≡ Some (canonical_text v)
 unfolding octets_said
-said_octets text v h canonical = has_octets v (message_in text) (subst (λ r. Alike Same r (message_in text)) h (alike _ (name_of text) (fields_of text))) canonical
+said_octets text v h canonical = has_octets v (message_in text) (subst (λ r. Alike Same r (message_in text)) h (text_alike _ text)) canonical
 
 -- none where that is too long
 pub said_too_long : {A : Type 0} (text : List ℕ) (v : Rsl A) → message_in text ≡ Ok v → (HasCanonical v → ⊥) → octets_said text ≡ None
 unfolding octets_said
-said_too_long text v h long = has_none v (message_in text) (subst (λ r. Alike Same r (message_in text)) h (alike _ (name_of text) (fields_of text))) long
+said_too_long text v h long = has_none v (message_in text) (subst (λ r. Alike Same r (message_in text)) h (text_alike _ text)) long
 
 -- nor where it says no message
 pub said_nothing : (A : Type 0) (text : List ℕ) (e : Fault) → message_in {A = A} text ≡ Err e → octets_said text ≡ None
 unfolding octets_said
-said_nothing A text e h = is_wrong A e (message_in text) (subst (λ r. Alike Same r (message_in text)) h (alike _ (name_of text) (fields_of text)))
+said_nothing A text e h = is_wrong A e (message_in text) (subst (λ r. Alike Same r (message_in text)) h (text_alike _ text))
 
 tested : {A : Type 0} (v : Rsl A) (b : Bool) → is_some (of_test v b) ≡ b
 tested v true = refl
@@ -231,6 +269,40 @@ says_octets text = by (message_in text)
 pub written_of_fields : (r : FieldRead (Rsl Unit)) → can_be_written_in (in_fields r) ≡ can_be_written_of r
 written_of_fields (Ok v) = refl
 written_of_fields (Err e) = refl
+
+-- data with a radio resource message can always be written
+fits_with : (layer3 : List ℕ) → length layer3 ≤ 255 → nat_le (length layer3) 1015 ≡ true
+fits_with layer3 short = grind (arith, nat_tests, short)
+
+pub request_written : (fields layer3 : List ℕ) → length layer3 ≤ 255 → is_ok (data_head fields) ≡ can_be_written_in (in_fields (read_map (λ d. DataRequest d.0 d.1 layer3) (data_head fields)))
+request_written fields layer3 short = by (data_head fields)
+  where
+    by : (r : FieldRead (ChanBits × ℕ)) → is_ok r ≡ can_be_written_in (in_fields (read_map (λ d. DataRequest d.0 d.1 layer3) r))
+    by (Ok d) = sym (fits_with layer3 short)
+    by (Err e) = refl
+
+pub indication_written : (fields layer3 : List ℕ) → length layer3 ≤ 255 → is_ok (data_head fields) ≡ can_be_written_in (in_fields (read_map (λ d. DataIndication d.0 d.1 layer3) (data_head fields)))
+indication_written fields layer3 short = by (data_head fields)
+  where
+    by : (r : FieldRead (ChanBits × ℕ)) → is_ok r ≡ can_be_written_in (in_fields (read_map (λ d. DataIndication d.0 d.1 layer3) r))
+    by (Ok d) = sym (fits_with layer3 short)
+    by (Err e) = refl
+
+-- a text says a message with its layer 3 in words where these say one, and what stands in front has room for it
+pub parts_said : (front words : List ℕ) (has_layer3 has_room : Bool) → has_layer3 ≡ is_ok (rr.message_in words)
+    → ((layer3 : List ℕ) → length layer3 ≤ 255 → has_room ≡ can_be_written_in (message_with (name_of front) (fields_of front) layer3))
+    → (has_layer3 && has_room) ≡ can_be_written_in (as_layer3 (rr.message_in words) >>= (λ layer3. message_with (name_of front) (fields_of front) (rr_text layer3)))
+parts_said front words has_layer3 has_room says room = rw says (by (rr.message_in words))
+  where
+    by : (r : Read Rr) → (is_ok r && has_room) ≡ can_be_written_in (as_layer3 r >>= (λ layer3. message_with (name_of front) (fields_of front) (rr_text layer3)))
+    by (Ok layer3) = room (rr_text layer3) (rr_short layer3)
+    by (Err (fault.Name name)) = refl
+    by (Err (fault.NoLayer3 name)) = refl
+    by (Err (fault.Layer3 name)) = refl
+    by (Err (fault.Field fault)) = refl
+    by (Err (fault.Neighbours count found)) = refl
+    by (Err fault.TooLong) = refl
+    by (Err fault.NoMemory) = refl
 
 -- a message without octets can always be written
 fits_always : {A : Type 0} (r : Read (Rsl A)) (s : Read (Rsl Unit)) → Alike Short r s → is_ok r ≡ can_be_written_in s

@@ -6,6 +6,8 @@ pub mod AbisLemmas
 pub mod NameLemmas
 -- facts of what is read step by step, and of two readers of one text
 pub mod ReadLemmas
+-- facts of the radio resource messages that texts say
+pub mod RrLemmas
 -- facts of numbers that a text writes
 pub mod ValueLemmas
 -- facts of the words of a text, and of the fields among them

@@ -1,10 +1,10 @@
 -- Facts of the words of a text, and of the fields among them.
-use Rattle.std.proofs.Common.{◌≡◌, ℕ, ◌+◌, ◌<◌, ◌∷◌, List, [], Bool, true, false, Option, Some, None, refl, ap, ◌∙◌, arith, length, length-drop, nat_lt, option_map, ◌==◌, Bor, MatchOption, IfSome}
+use Rattle.std.proofs.Common.{◌≡◌, ◌≢◌, if◌then◌else◌, ℕ, ◌+◌, ◌<◌, ◌∷◌, List, [], Bool, true, false, Option, Some, None, refl, ap, ◌∙◌, arith, length, length-drop, nat_lt, option_map, ◌==◌, Bor, MatchOption, IfSome}
 use Rattle.std.specs.Prelude.{bytes_eq}
 use Rattle.std.specs.List.{list_any, slice_split, onto_first, position_or_len, before_first, after_first}
 use Rattle.std.proofs.lemmas.List.Splits.{slice_split-cons_no, slice_split_first}
 use Rattle.std.proofs.lemmas.Bool.Decides.{Decides-ltb}
-use Rattle.encoded_messages.specs.Words.{cut_at, is_same}
+use Rattle.encoded_messages.specs.Words.{cut_at, behind_blank, is_same}
 use Rattle.encoded_messages.specs.Forms.{keys_of}
 use Rattle.encoded_messages.specs.declared.form.FieldForm.{FieldForm}
 
@@ -46,6 +46,17 @@ cut_first mark text None h =
 cut_first mark text (Some x) h =
     let within : nat_lt (position_or_len (λ b. b == mark) text) (length text) ≡ true = (Decides-ltb (position_or_len (λ b. b == mark) text) (length text)).1 h.0 in
     rw (within, h.1, h.2) refl
+
+-- a text begins with a blank, or doesn't
+no_blank : (byte : ℕ) (text : List ℕ) (is_blank : Bool) → (byte == 32) ≡ is_blank → ((rest : List ℕ) → byte ∷ text ≢ 32 ∷ rest) → None ≡ (if is_blank then Some text else None)
+no_blank byte text true e none = absurd (none text (let same : byte ≡ 32 = grind (arith, e) in rw same refl))
+no_blank byte text false e none = refl
+
+pub blank_first : (text : List ℕ) (r : Option (Bor (List ℕ))) → MatchOption r ((rest : List ℕ) → text ≢ 32 ∷ rest) (λ x. text ≡ 32 ∷ x.now)
+    → option_map (λ x. x.now) r ≡ behind_blank text
+blank_first [] None none = refl
+blank_first (byte ∷ text) None none = no_blank byte text (byte == 32) refl none
+blank_first text (Some x) some = rw some refl
 
 -- a field has a key, and the key is one of those of the fields
 pub keys_any : (key : List ℕ) (forms : List FieldForm) → list_any (is_same key) (keys_of forms) ≡ list_any (λ form. bytes_eq form.0.now key) forms

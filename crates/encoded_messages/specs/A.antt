@@ -7,7 +7,7 @@ use Rattle.encoded_messages.specs.declared.field_fault.Allowed.TheVariants as ma
 use Rattle.encoded_messages.specs.FieldFaults.{Read as FieldRead, ◌>>=◌, ◌>>◌, read_map}
 use Rattle.encoded_messages.specs.Words.{parts_of}
 use Rattle.encoded_messages.specs.Values as value
-use Rattle.encoded_messages.specs.Fields.{name_of, fields_of, only_keys, field_at, number_at, flag_at, optional_octet_at, octets_at}
+use Rattle.encoded_messages.specs.Fields.{name_of, fields_of, only_keys, field_at, cause_at, flag_at, optional_octet_at, octets_at}
 use Rattle.bssmap_messages.specs.declared.message.CellId.{CellId}
 use Rattle.bssmap_messages.specs.declared.message.Classmark.{Classmark}
 use Rattle.bssmap_messages.specs.declared.message.Classmark.TheVariants.{One, Two}
@@ -63,7 +63,7 @@ handover_request fields = do
 unfoldable pub handover_required : {A : Type 0} → List ℕ → FieldRead (Bssmap A)
 handover_required fields = do
   only_keys (codes "cause" ∷ codes "response" ∷ codes "cells" ∷ []) fields
-  cause ← number_at 255 (codes "cause") fields
+  cause ← cause_at (codes "cause") fields
   response ← flag_at (codes "response") fields
   cells ← cells_at fields
   Ok (HandoverRequired cause response cells)
@@ -82,21 +82,21 @@ handover_complete fields = do
 unfoldable pub handover_failure : {A : Type 0} → List ℕ → FieldRead (Bssmap A)
 handover_failure fields = do
   only_keys (codes "cause" ∷ codes "rr" ∷ []) fields
-  cause ← number_at 255 (codes "cause") fields
+  cause ← cause_at (codes "cause") fields
   rr ← optional_octet_at (codes "rr") fields
   Ok (HandoverFailure cause rr)
 
 unfoldable pub handover_performed : {A : Type 0} → List ℕ → FieldRead (Bssmap A)
 handover_performed fields = do
   only_keys (codes "cause" ∷ codes "cell" ∷ []) fields
-  cause ← number_at 255 (codes "cause") fields
+  cause ← cause_at (codes "cause") fields
   cell ← cell_at (codes "cell") fields
   Ok (HandoverPerformed cause cell)
 
 unfoldable pub cause_alone : List ℕ → FieldRead ℕ
 cause_alone fields = do
   only_keys (codes "cause" ∷ []) fields
-  number_at 255 (codes "cause") fields
+  cause_at (codes "cause") fields
 
 -- this message, of fields that are none
 unfoldable pub no_fields : {A : Type 0} → List ℕ → Bssmap A → FieldRead (Bssmap A)

@@ -4,12 +4,15 @@
 use Rattle.std.specs.Prelude.{◌≡◌, ◌⊎◌, ℕ, ◌+◌, ◌&&◌, Bool, true, false, nat_le, if◌then◌else◌, List, [], ◌∷◌, length, codes, Option, Some, None, option_map, option_and_then, unwrap_or, Ok, Err, IsOkAnd, bytes_eq}
 use Rattle.std.specs.Result.{result_ok}
 use Rattle.encoded_messages.specs.FieldFaults.{Read as FieldRead, ◌>>=◌, ◌>>◌, read_map}
-use Rattle.encoded_messages.specs.Fields.{name_of, fields_of, only_keys, number_at, traffic_channel_at, optional_octet_at, octets_at, optional_octets_at}
+use Rattle.encoded_messages.specs.Fields.{name_of, fields_of, only_keys, number_at, cause_at, traffic_channel_at, optional_octet_at, octets_at, optional_octets_at}
 use Rattle.rsl_messages.specs.declared.message.ChanBits.{ChanBits}
 use Rattle.rsl_messages.specs.declared.message.Rsl.{Rsl}
 use Rattle.rsl_messages.specs.declared.message.Rsl.TheVariants.{DataRequest, DataIndication, ChannelActivation, ChannelActivationAck, ChannelActivationNack, ConnectionFailureIndication, HandoverDetection, MeasurementResult, RfChannelRelease, RfChannelReleaseAck}
 use Rattle.rsl_messages.specs.Texts.{HasCanonical, canonical_text}
-use Rattle.encoded_messages.specs.Faults.{Fault, Name, TooLong, Read, in_fields}
+use Rattle.encoded_messages.specs.Faults.{Fault, Name, NoLayer3, TooLong, Read, in_fields, as_layer3}
+use Rattle.encoded_messages.specs.Words.{around_semicolon}
+use Rattle.encoded_messages.specs.Rr as rr
+use Rattle.rr_messages.specs.Rr.{rr_text}
 
 -- the channel that a message is about
 unfoldable pub channel : List ℕ → FieldRead ChanBits
@@ -55,7 +58,7 @@ unfoldable pub cause : List ℕ → FieldRead (ChanBits × ℕ)
 cause fields = do
   only_keys (codes "tn" ∷ codes "cause" ∷ []) fields
   channel ← channel fields
-  cause ← number_at 255 (codes "cause") fields
+  cause ← cause_at (codes "cause") fields
   Ok (channel, cause)
 
 unfoldable pub detection : {A : Type 0} → List ℕ → FieldRead (Rsl A)
@@ -104,9 +107,45 @@ message_of name fields =
     else if bytes_eq name (codes "MEASUREMENT RESULT") then in_fields (measurement fields)
     else short_message name fields
 
--- what the name and the fields of a text say
+-- DATA REQUEST and DATA INDICATION without their layer 3
+unfoldable pub data_head : List ℕ → FieldRead (ChanBits × ℕ)
+data_head fields = do
+  only_keys (codes "tn" ∷ codes "link" ∷ []) fields
+  channel ← channel fields
+  link ← number_at 255 (codes "link") fields
+  Ok (channel, link)
+
+-- the keys of the fields of MEASUREMENT RESULT without its layer 3
+unfoldable pub measurement_keys_with : List (List ℕ)
+measurement_keys_with = codes "tn" ∷ codes "number" ∷ codes "uplink" ∷ codes "power" ∷ []
+
+-- MEASUREMENT RESULT with these octets of layer 3
+unfoldable pub measurement_with : {A : Type 0} → List ℕ → List ℕ → FieldRead (Rsl A)
+measurement_with layer3 fields = do
+  only_keys measurement_keys_with fields
+  channel ← channel fields
+  number ← number_at 255 (codes "number") fields
+  uplink ← octets_at 0 (codes "uplink") fields
+  power ← number_at 255 (codes "power") fields
+  Ok (MeasurementResult channel number uplink power (Some layer3))
+
+-- the message of this name with these fields and these octets of layer 3; messages without layer 3 have none
+unfoldable pub message_with : {A : Type 0} → List ℕ → List ℕ → List ℕ → Read (Rsl A)
+message_with name fields layer3 =
+    if bytes_eq name (codes "DATA REQUEST") then in_fields (read_map (λ d. DataRequest d.0 d.1 layer3) (data_head fields))
+    else if bytes_eq name (codes "DATA INDICATION") then in_fields (read_map (λ d. DataIndication d.0 d.1 layer3) (data_head fields))
+    else if bytes_eq name (codes "MEASUREMENT RESULT") then in_fields (measurement_with layer3 fields)
+    else Err (NoLayer3 name)
+
+-- what a text says whose message has its layer 3 in words behind it, and what another says
+abbrev pub in_parts : {A : Type 0} → List ℕ → Option (List ℕ × List ℕ) → Read (Rsl A)
+in_parts text None = message_of (name_of text) (fields_of text)
+in_parts text (Some (front, words)) = as_layer3 (rr.message_in words) >>= (λ layer3. message_with (name_of front) (fields_of front) (rr_text layer3))
+
+-- The message that a text says: by its name and its fields; or, where a `;` and a blank stand in it, by those in front, with the
+-- radio resource message that the words behind them say as its layer 3.
 abbrev pub message_in : {A : Type 0} → List ℕ → Read (Rsl A)
-message_in text = message_of (name_of text) (fields_of text)
+message_in text = in_parts text (around_semicolon text)
 
 -- they say a message that has a canonical text
 abbrev pub CanBeWritten : Type 0 → List ℕ → Type 0

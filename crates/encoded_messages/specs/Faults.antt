@@ -7,11 +7,12 @@ use Rattle.encoded_messages.specs.FieldFaults as field
 use Rattle.encoded_messages.specs.declared.fault.MessageFault.{MessageFault}
 use Rattle.encoded_messages.specs.declared.fault.MessageFault.TheVariants as found
 
--- A fault by its texts: what stands before the fields names no message of the link; something is wrong with the fields; the
--- count says so many neighbours, and there are so many; the message has no canonical text. Memory that was refused is no
--- text's fault: nothing here says it.
+-- A fault by its texts: what stands before the fields names no message of the link, none that has a layer 3, or none
+-- that is one; something is
+-- wrong with the fields; the count says so many neighbours, and there are so many; the message has no canonical text. Memory that
+-- was refused is no text's fault: nothing here says it.
 pub data Fault : Type 0 where
-  Name : List ℕ → Fault
+  Name NoLayer3 Layer3 : List ℕ → Fault
   Field : field.Fault → Fault
   Neighbours : ℕ → ℕ → Fault
   TooLong NoMemory : Fault
@@ -19,6 +20,8 @@ pub data Fault : Type 0 where
 -- the texts of a fault that was found
 abbrev pub fault_of : MessageFault → Fault
 fault_of (found.Name name) = Name name.now
+fault_of (found.NoLayer3 name) = NoLayer3 name.now
+fault_of (found.Layer3 name) = Layer3 name.now
 fault_of (found.Field fault) = Field (field.fault_of fault)
 fault_of (found.Neighbours count found) = Neighbours count found
 fault_of found.TooLong = TooLong
@@ -42,6 +45,12 @@ Read X = Result X Fault
 abbrev pub in_fields : {X : Type 0} → field.Read X → Read X
 in_fields (Ok x) = Ok x
 in_fields (Err fault) = Err (field_fault fault)
+
+-- what is read as the layer 3 of a message: a name that is none is told as such
+abbrev pub as_layer3 : {X : Type 0} → Read X → Read X
+as_layer3 (Ok x) = Ok x
+as_layer3 (Err (Name name)) = Err (Layer3 name)
+as_layer3 (Err fault) = Err fault
 
 -- what was read, its fault by its texts
 abbrev pub read_of : {X : Type 0} → Result X MessageFault → Read X

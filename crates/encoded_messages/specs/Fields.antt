@@ -6,7 +6,7 @@ use Rattle.encoded_messages.specs.declared.field_fault.Allowed.{Allowed}
 use Rattle.encoded_messages.specs.declared.field_fault.Allowed.TheVariants as may
 use Rattle.timeslots.specs.declared.Sub.{Sub}
 use Rattle.encoded_messages.specs.Words.{words_of, values_of, first_unknown}
-use Rattle.encoded_messages.specs.Values.{number_to, flag_of, octets_of, traffic_channel_of}
+use Rattle.encoded_messages.specs.Values.{number_to, cause_of, flag_of, octets_of, traffic_channel_of}
 use Rattle.encoded_messages.specs.FieldFaults.{Unknown, Missing, Twice, Value, Read, ◌>>=◌}
 
 -- a word has an `=`
@@ -47,6 +47,10 @@ field_at allowed says key fields = value_at key fields >>= (λ value. ok_or (say
 -- a number up to the greatest
 unfoldable pub number_at : ℕ → List ℕ → List ℕ → Read ℕ
 number_at most key fields = field_at (may.Number most) (number_to most) key fields
+
+-- a cause
+unfoldable pub cause_at : List ℕ → List ℕ → Read ℕ
+cause_at key fields = field_at may.Cause cause_of key fields
 
 -- an octet in decimal, or nothing
 abbrev pub optional_octet_of : List ℕ → Option (Option ℕ)

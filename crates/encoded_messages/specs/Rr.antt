@@ -1,12 +1,12 @@
 -- The radio resource message that a text says (TS 44.018 section 9.1), or the first thing that is wrong with the text: its
 -- name; a word that is no field of the message; then each field, in the order in which it stands here; then the number of
 -- neighbours. A text is the list of its bytes; the words are ours, of no standard.
-use Rattle.std.specs.Prelude.{◌≡◌, ℕ, ◌==◌, if◌then◌else◌, List, [], ◌∷◌, length, codes, Option, option_map, ok_or, Ok, Err, IsOk, IsOkAnd, bytes_eq}
+use Rattle.std.specs.Prelude.{◌≡◌, ℕ, ◌==◌, Bool, false, if◌then◌else◌, List, [], ◌∷◌, length, codes, Option, option_map, ok_or, Ok, Err, IsOk, IsOkAnd, bytes_eq}
 use Rattle.encoded_messages.specs.declared.field_fault.Allowed.TheVariants as may
 use Rattle.encoded_messages.specs.FieldFaults.{Value, Read as FieldRead, ◌>>=◌, ◌>>◌, read_map}
 use Rattle.encoded_messages.specs.Words.{words_of, values_of}
 use Rattle.encoded_messages.specs.Values as value
-use Rattle.encoded_messages.specs.Fields.{name_of, fields_of, only_keys, number_at, traffic_channel_at, flag_at}
+use Rattle.encoded_messages.specs.Fields.{name_of, fields_of, only_keys, number_at, cause_at, traffic_channel_at, flag_at}
 use Rattle.rr_elements.specs.CellDescription.{Cell}
 use Rattle.rr_elements.specs.ChanDescription.{Chan}
 use Rattle.rr_elements.specs.Power.{PowerCommand}
@@ -55,7 +55,7 @@ handover_command fields = do
 unfoldable pub cause_alone : List ℕ → FieldRead RrCause
 cause_alone fields = do
   only_keys (codes "cause" ∷ []) fields
-  cause ← number_at 255 (codes "cause") fields
+  cause ← cause_at (codes "cause") fields
   Ok (record { 0 = cause })
 
 unfoldable pub physical_information : List ℕ → FieldRead Rr
@@ -89,6 +89,11 @@ neighbours_of (value ∷ values) = ok_or (neighbour_of value) (Value (codes "n")
 -- those of the fields `n`, in their order
 abbrev pub neighbours_in : List ℕ → FieldRead (List Ncell)
 neighbours_in fields = neighbours_of (values_of (codes "n") (words_of fields))
+
+-- as many as are asked for, each as it may be
+abbrev pub are_so_many : ℕ → FieldRead (List Ncell) → Bool
+are_so_many count (Ok neighbours) = length neighbours == count
+are_so_many count (Err fault) = false
 
 -- the keys of the fields of MEASUREMENT REPORT
 unfoldable pub report_keys : List (List ℕ)

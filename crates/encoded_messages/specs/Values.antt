@@ -1,7 +1,8 @@
 -- What the value of a field says. A text is the list of its bytes. Ours, of no standard.
-use Rattle.std.specs.Prelude.{ℕ, ◌+◌, ◌&&◌, Bool, true, false, nat_lt, nat_le, if◌then◌else◌, List, length, codes, Option, Some, None, option_and_then, bytes_eq}
+use Rattle.std.specs.Prelude.{ℕ, ◌+◌, ◌*◌, ◌==◌, ◌&&◌, Bool, true, false, nat_lt, nat_le, if◌then◌else◌, List, [], ◌∷◌, length, codes, Option, Some, None, option_and_then, bytes_eq}
 use Rattle.std.specs.List.{list_all}
-use Rattle.std.specs.Char.{is_ascii_digit}
+use Rattle.std.specs.Char.{is_ascii_digit, digit_value}
+use Rattle.std.specs.Option.{option_or}
 use Rattle.std.specs.Result.{result_ok}
 use Rattle.std.specs.Str.Parse.{digits_value}
 use Rattle.hex.specs.Hex.{decode_of}
@@ -21,6 +22,23 @@ number_below limit text = if is_number text && nat_lt (digits_value 10 text) lim
 -- the number that a text writes, where that is at most this one
 abbrev pub number_to : ℕ → List ℕ → Option ℕ
 number_to most text = number_below (most + 1) text
+
+-- the value of a hexadecimal digit, in either case
+abbrev pub hex_digit_of : ℕ → Option ℕ
+hex_digit_of digit = if nat_lt (digit_value digit) 16 then Some (digit_value digit) else None
+
+-- the octet of two such digits
+abbrev pub two_digits_of : ℕ → ℕ → Option ℕ
+two_digits_of high low = hex_digit_of high >>= (λ h. hex_digit_of low >>= (λ l. Some (16 * h + l)))
+
+-- the octet that a text writes in hexadecimal, behind `0x`
+abbrev pub hex_octet_of : List ℕ → Option ℕ
+hex_octet_of (nought ∷ x ∷ high ∷ low ∷ []) = if nought == 48 && x == 120 then two_digits_of high low else None
+hex_octet_of text = None
+
+-- a cause: an octet in decimal, or in hexadecimal
+abbrev pub cause_of : List ℕ → Option ℕ
+cause_of text = option_or (number_to 255 text) (hex_octet_of text)
 
 -- 0 or 1
 abbrev pub flag_of : List ℕ → Option Bool

@@ -1,5 +1,5 @@
 -- The words of a text, and the fields among them. A text is the list of its bytes. Ours, of no standard.
-use Rattle.std.specs.Prelude.{◌≡◌, ℕ, ◌==◌, Bool, not, false, nat_lt, if◌then◌else◌, List, length, Option, Some, None, bytes_eq}
+use Rattle.std.specs.Prelude.{◌≡◌, ℕ, ◌==◌, Bool, not, false, nat_lt, if◌then◌else◌, List, [], ◌∷◌, length, Option, Some, None, option_map, option_and_then, bytes_eq}
 use Rattle.std.specs.List.{slice_split, list_any, find, filter_map, before_first, after_first, position_or_len}
 
 -- the words of a text: one blank stands between any two
@@ -17,6 +17,15 @@ Lacks mark text = list_any (λ b. b == mark) text ≡ false
 -- a text up to the first byte of this value, and what stands behind that
 abbrev pub cut_at : ℕ → List ℕ → Option (List ℕ × List ℕ)
 cut_at mark text = if nat_lt (position_or_len (λ b. b == mark) text) (length text) then Some (before_first (λ b. b == mark) text, after_first (λ b. b == mark) text) else None
+
+-- what stands behind the blank with which a text begins
+abbrev pub behind_blank : List ℕ → Option (List ℕ)
+behind_blank [] = None
+behind_blank (byte ∷ text) = if byte == 32 then Some text else None
+
+-- what stands before the first `;` of a text, and behind the blank that follows it
+abbrev pub around_semicolon : List ℕ → Option (List ℕ × List ℕ)
+around_semicolon text = option_and_then (λ cut. option_map (λ words. (cut.0, words)) (behind_blank cut.1)) (cut_at 59 text)
 
 abbrev pub is_same : List ℕ → List ℕ → Bool
 is_same word other = bytes_eq other word

@@ -31,7 +31,7 @@ const SERVING: FieldForm<'static> = FieldForm("serving", Allowed::Cell);
 
 const TARGET: FieldForm<'static> = FieldForm("target", Allowed::Cell);
 
-const CAUSE: FieldForm<'static> = FieldForm("cause", Allowed::Number(255));
+const CAUSE: FieldForm<'static> = FieldForm("cause", Allowed::Cause);
 
 const RESPONSE: FieldForm<'static> = FieldForm("response", Allowed::Flag);
 
@@ -348,7 +348,7 @@ fn handover_required<A: Allocator + Copy>(
     ensures { Answers result (said.handover_required fields.now) }
 {
     only_fields(fields, HANDOVER_REQUIRED)?;
-    let cause = CAUSE.octet(fields)?;
+    let cause = CAUSE.cause(fields)?;
     let response = RESPONSE.flag(fields)?;
     let cells = cells(alloc, fields)?;
     Ok(Bssmap::HandoverRequired {
@@ -390,7 +390,7 @@ fn handover_failure<A: Allocator>(fields: &str) -> Result<Bssmap<A>, FieldFault<
 {
     only_fields(fields, HANDOVER_FAILURE)?;
     Ok(Bssmap::HandoverFailure {
-        cause: CAUSE.octet(fields)?,
+        cause: CAUSE.cause(fields)?,
         rr: RR.optional_octet(fields)?,
     })
 }
@@ -402,7 +402,7 @@ fn handover_performed<A: Allocator>(fields: &str) -> Result<Bssmap<A>, FieldFaul
 {
     only_fields(fields, HANDOVER_PERFORMED)?;
     Ok(Bssmap::HandoverPerformed {
-        cause: CAUSE.octet(fields)?,
+        cause: CAUSE.cause(fields)?,
         cell: cell(fields, CELL)?,
     })
 }
@@ -414,7 +414,7 @@ fn cause_alone<'a>(fields: &'a str, form: MessageForm<'static>) -> Result<u8, Fi
     ensures { read_of result ≡ said.cause_alone fields.now }
 {
     only_fields(fields, form)?;
-    CAUSE.octet(fields)
+    CAUSE.cause(fields)
 }
 
 /// A message without fields.
@@ -536,7 +536,7 @@ fn says_required(fields: &str) -> bool
     ensures { result ≡ said.can_be_written_of (said.handover_required {A = Unit} fields.now) }
 {
     only_fields(fields, HANDOVER_REQUIRED).is_ok()
-        && CAUSE.octet(fields).is_ok()
+        && CAUSE.cause(fields).is_ok()
         && RESPONSE.flag(fields).is_ok()
         && says_cells(fields, 61)
 }

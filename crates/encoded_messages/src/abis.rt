@@ -1,24 +1,29 @@
 //! Messages on Abis from words (TS 48.058 clause 8).
-ghost use Rattle.std.specs.Prelude.{◌≡◌, ◌≢◌, ◌∷◌, [], Some, None, IfOk, IfErr, codes, is_some};
+ghost use Rattle.std.specs.Prelude.{◌≡◌, ◌≢◌, ◌∷◌, [], List, ℕ, Some, None, Err, IfOk, IfErr, IsOkAnd, codes, is_some};
 ghost use Rattle.encoded_messages.specs.Fields.{only_keys};
 ghost use Rattle.encoded_messages.specs.Forms.{keys_of};
 ghost use Rattle.encoded_messages.specs.FieldFaults.{read_of, Answers};
 ghost use Rattle.encoded_messages.specs.Faults as faults;
 ghost use Rattle.encoded_messages.specs.Abis as said;
+ghost use Rattle.encoded_messages.specs.Rr as rr;
+ghost use Rattle.rr_messages.specs.Rr.{rr_text};
 
 use crate::fault::MessageFault;
 use crate::field_fault::{Allowed, FieldFault};
 use crate::fields::only_fields;
 use crate::form::{FieldForm, MessageForm};
+use crate::layer3::{message_with, says_with};
 use crate::name::name_and_fields;
+use crate::rr::{encode_rr, says_rr};
 use crate::visit::{FieldValue, Fields, hand_on};
+use crate::words::around_semicolon;
 use rsl_messages::{ChanBits, Octets, Rsl, encode, fits};
 use std::alloc::{Allocator, Global};
 
 /// The fields of messages on Abis.
-const TN: FieldForm<'static> = FieldForm("tn", Allowed::TrafficChannel);
+pub(crate) const TN: FieldForm<'static> = FieldForm("tn", Allowed::TrafficChannel);
 
-const LINK: FieldForm<'static> = FieldForm("link", Allowed::Number(255));
+pub(crate) const LINK: FieldForm<'static> = FieldForm("link", Allowed::Number(255));
 
 const LAYER3: FieldForm<'static> = FieldForm("layer3", Allowed::Octets(1));
 
@@ -30,25 +35,25 @@ const REFERENCE: FieldForm<'static> = FieldForm("reference", Allowed::OptionalOc
 
 const FRAME: FieldForm<'static> = FieldForm("frame", Allowed::Number(65535));
 
-const CAUSE: FieldForm<'static> = FieldForm("cause", Allowed::Number(255));
+const CAUSE: FieldForm<'static> = FieldForm("cause", Allowed::Cause);
 
 const DELAY: FieldForm<'static> = FieldForm("delay", Allowed::OptionalOctet);
 
-const NUMBER: FieldForm<'static> = FieldForm("number", Allowed::Number(255));
+pub(crate) const NUMBER: FieldForm<'static> = FieldForm("number", Allowed::Number(255));
 
-const UPLINK: FieldForm<'static> = FieldForm("uplink", Allowed::Octets(0));
+pub(crate) const UPLINK: FieldForm<'static> = FieldForm("uplink", Allowed::Octets(0));
 
-const POWER: FieldForm<'static> = FieldForm("power", Allowed::Number(255));
+pub(crate) const POWER: FieldForm<'static> = FieldForm("power", Allowed::Number(255));
 
 const REPORT: FieldForm<'static> = FieldForm("layer3", Allowed::OptionalOctets(1));
 
 /// TS 48.058 clause 8.3.1.
-const DATA_REQUEST: MessageForm<'static> = MessageForm {
+pub(crate) const DATA_REQUEST: MessageForm<'static> = MessageForm {
     name: "DATA REQUEST",
     fields: &[TN, LINK, LAYER3],
 };
 /// TS 48.058 clause 8.3.2.
-const DATA_INDICATION: MessageForm<'static> = MessageForm {
+pub(crate) const DATA_INDICATION: MessageForm<'static> = MessageForm {
     name: "DATA INDICATION",
     fields: &[TN, LINK, LAYER3],
 };
@@ -78,7 +83,7 @@ const HANDOVER_DETECTION: MessageForm<'static> = MessageForm {
     fields: &[TN, DELAY],
 };
 /// TS 48.058 clause 8.4.8.
-const MEASUREMENT_RESULT: MessageForm<'static> = MessageForm {
+pub(crate) const MEASUREMENT_RESULT: MessageForm<'static> = MessageForm {
     name: "MEASUREMENT RESULT",
     fields: &[TN, NUMBER, UPLINK, POWER, REPORT],
 };
@@ -228,7 +233,7 @@ fn report_in<A: Allocator>(layer3: &Option<Octets<A>>) -> Option<&[u8]> {
 
 /// The channel that a message is about.
 #[tactic(auto, unfolding(crate::specs::Abis::channel))]
-fn channel(fields: &str) -> Result<ChanBits, FieldFault<'_>>
+pub(crate) fn channel(fields: &str) -> Result<ChanBits, FieldFault<'_>>
     ensures { read_of result ≡ said.channel fields.now }
 {
     let (tn, sub) = TN.traffic_channel(fields)?;
@@ -313,7 +318,7 @@ fn cause<'a>(fields: &'a str, form: MessageForm<'static>) -> Result<(ChanBits, u
 {
     only_fields(fields, form)?;
     let channel = channel(fields)?;
-    let cause = CAUSE.octet(fields)?;
+    let cause = CAUSE.cause(fields)?;
     Ok((channel, cause))
 }
 
@@ -423,7 +428,38 @@ fn message_of<'a, A: Allocator + Copy>(
     }
 }
 
-/// The octets of the message on Abis that a text says: its canonical text.
+/// The octets of the radio resource message that a text says, which is the layer 3 of another.
+fn layer3_in<A: Allocator + Copy>(alloc: A, text: &str) -> Result<Vec<u8, A>, MessageFault<'_>>
+    ensures octets { IfOk result (λ octets. IsOkAnd (faults.as_layer3 (rr.message_in text.now))
+        (λ layer3. octets.items ≡ rr_text layer3)) }
+    ensures fault { IfErr result (λ fault. fault ≢ MessageFault.NoMemory →
+        faults.as_layer3 (rr.message_in text.now) ≡ Err (faults.fault_of fault)) }
+{
+    match encode_rr(alloc, text) {
+        Err(MessageFault::Name(name)) => Err(MessageFault::Layer3(name)),
+        read => read,
+    }
+}
+
+/// The message that a text says.
+fn message_in<A: Allocator + Copy>(alloc: A, text: &str) -> Result<Rsl<A>, MessageFault<'_>>
+    ensures { faults.Answers result (said.message_in text.now) }
+{
+    match around_semicolon(text) {
+        Some((front, behind)) => {
+            let layer3 = layer3_in(alloc, behind)?;
+            let (name, fields) = name_and_fields(front);
+            message_with(alloc, name, fields, layer3)
+        }
+        None => {
+            let (name, fields) = name_and_fields(text);
+            message_of(alloc, name, fields)
+        }
+    }
+}
+
+/// The octets of the message on Abis that a text says: its canonical text. The radio resource message that is its layer 3 may stand
+/// in words, too, behind a `;` and in place of the field `layer3`.
 #[tactic(auto, using(crate::proofs::AbisLemmas::said_octets, crate::proofs::AbisLemmas::said_too_long, crate::proofs::AbisLemmas::said_nothing))]
 pub fn encode_abis<A: Allocator + Copy>(
     alloc: A,
@@ -436,8 +472,7 @@ pub fn encode_abis<A: Allocator + Copy>(
     ensures unsaid { IfErr result (λ fault. fault ≢ MessageFault.NoMemory →
         said.octets_said text.now ≡ None) }
 {
-    let (name, fields) = name_and_fields(text);
-    let message = message_of(alloc, name, fields)?;
+    let message = message_in(alloc, text)?;
     if !fits(&message) {
         return Err(MessageFault::TooLong);
     }
@@ -533,11 +568,26 @@ fn says_message(name: &str, fields: &str) -> bool
     }
 }
 
+/// Whether a text with its layer 3 in words behind it says a message that can be written. Takes no memory.
+#[tactic(auto, using(crate::proofs::AbisLemmas::parts_said))]
+fn says_parts(front: &str, words: &str) -> bool
+    ensures { (text : List ℕ) → result ≡
+        said.can_be_written_in (said.in_parts {A = Unit} text (Some (front.now, words.now))) }
+{
+    let (name, fields) = name_and_fields(front);
+    says_rr(words) && says_with(name, fields)
+}
+
 /// Whether a text says a message on Abis that can be written: [`encode_abis`] gives its octets, memory aside. Takes no memory.
 #[tactic(auto, using(crate::proofs::AbisLemmas::says_octets))]
 pub fn says_abis(text: &str) -> bool
     ensures said { result ≡ is_some (said.octets_said text.now) }
 {
-    let (name, fields) = name_and_fields(text);
-    says_message(name, fields)
+    match around_semicolon(text) {
+        Some((front, words)) => says_parts(front, words),
+        None => {
+            let (name, fields) = name_and_fields(text);
+            says_message(name, fields)
+        }
+    }
 }

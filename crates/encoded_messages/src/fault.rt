@@ -11,6 +11,12 @@ pub enum MessageFault<'a> {
     // What stands before the first field is no name of a message of the link.
     #[error("{} is no message of the link", Shown(.0))]
     Name(&'a str),
+    // Layer 3 stands in words behind what is no name of a message that has one.
+    #[error("{} is no message that has layer 3", Shown(.0))]
+    NoLayer3(&'a str),
+    // What stands as layer 3 has no name of a radio resource message.
+    #[error("{} is no radio resource message", Shown(.0))]
+    Layer3(&'a str),
     // A field is missing, unknown, twice, or out of its range.
     #[error(transparent)]
     Field(FieldFault<'a>),

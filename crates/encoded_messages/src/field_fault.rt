@@ -7,6 +7,8 @@ use thiserror::Error;
 pub enum Allowed {
     /// A number from 0 to this one.
     Number(u16),
+    /// A number from 0 to 255, or `0x` and two hexadecimal digits.
+    Cause,
     /// A number from 0 to 255, or `-`.
     OptionalOctet,
     /// A timeslot, and behind it the half of it that a half-rate channel has.
@@ -43,6 +45,7 @@ impl fmt::Display for Allowed {
     fn fmt<W: fmt::Write>(&self, f: &mut fmt::Formatter<W>) -> fmt::Result {
         match self {
             Allowed::Number(most) => write!(f, "0 to {most}"),
+            Allowed::Cause => write!(f, "0 to 255"),
             Allowed::OptionalOctet => write!(f, "0 to 255, or -"),
             Allowed::TrafficChannel => write!(f, "0 to 7, with /0 or /1 behind it for half rate"),
             Allowed::Flag => write!(f, "0 or 1"),

@@ -12,7 +12,7 @@ ghost use Rattle.encoded_messages.specs.declared.field_fault.FieldFault.TheVaria
 
 use crate::field_fault::{Allowed, FieldFault};
 use crate::form::MessageForm;
-use crate::values::{flag_in, number_in, octet_in, octets_in, traffic_channel_in};
+use crate::values::{cause_in, flag_in, number_in, octet_in, octets_in, traffic_channel_in};
 use crate::words::{first_unknown, first_value};
 use rsl_messages::Sub;
 use std::alloc::Allocator;
@@ -94,6 +94,20 @@ pub fn octet<'a>(fields: &'a str, key: &'static str) -> Result<u8, FieldFault<'a
     ensures number { read_of result ≡ said.number_at 255 key.now fields.now }
 {
     small(fields, key, 255)
+}
+
+/// The cause of a field, in decimal, or in hexadecimal behind `0x`.
+#[tactic(auto, unfolding(crate::specs::Fields::cause_at))]
+pub fn cause<'a>(fields: &'a str, key: &'static str) -> Result<u8, FieldFault<'a>>
+    ensures cause { read_of result ≡ said.cause_at key.now fields.now }
+{
+    let value = value(fields, key)?;
+    let allowed = Allowed::Cause;
+    cause_in(value).ok_or(FieldFault::Value {
+        key,
+        value,
+        allowed,
+    })
 }
 
 /// The octet of a field, in decimal, or `-`.

@@ -9,7 +9,7 @@ ghost use Rattle.encoded_messages.specs.declared.field_fault.FieldFault.TheVaria
 
 use crate::field_fault::{Allowed, FieldFault};
 use crate::fields::{
-    flag, number, octets, optional_octet, optional_octets, small, traffic_channel, value,
+    cause, flag, number, octets, optional_octet, optional_octets, small, traffic_channel, value,
 };
 use crate::values::octets_len;
 use rsl_messages::Sub;
@@ -52,6 +52,14 @@ impl FieldForm<'static> {
             Allowed::Number(most) => small(fields, self.0, most as u8),
             _ => unreachable!(),
         }
+    }
+
+    /// The cause of this field.
+    pub(crate) fn cause(self, fields: &str) -> Result<u8, FieldFault<'_>>
+        requires { self.1 ≡ may.Cause }
+        ensures { read_of result ≡ said.cause_at self.entry.0.now fields.now }
+    {
+        cause(fields, self.0)
     }
 
     /// The octet of this field, or `-`.

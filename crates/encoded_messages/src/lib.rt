@@ -2,8 +2,13 @@
 //!
 //! A text has words with one blank between any two: those of the message's name, and behind it its fields, `key=value`
 //! each, in any order. Numbers are in decimal, flags 0 or 1, octets two hexadecimal digits each, in either case, and `-`
-//! stands for what is absent. A timeslot's number is its full-rate channel; with `/0` or `/1` behind it, one of its
-//! half-rate channels. Fields are handed on as the text behind the name. Ours, of no standard.
+//! stands for what is absent. A cause is an octet in decimal, or `0x` and two hexadecimal digits. A timeslot's number is its
+//! full-rate channel; with `/0` or `/1` behind it, one of its half-rate channels. Fields are handed on as the text behind the
+//! name. Ours, of no standard.
+//!
+//! A message on Abis that has layer 3 may have it in words: `;`, a blank and a radio resource message stand behind its fields, in
+//! place of the field `layer3`, as in `DATA INDICATION tn=1 link=0; HANDOVER COMPLETE cause=0`. If both are wrong, the fault is
+//! that of the words behind the `;`.
 //!
 //! Each message's name and fields stand once, as its form: a `const` of `abis`, `a` or `rr`. By it a message is read, what is
 //! wrong with a text is said, messages are printed (`visit_abis`, `visit_a`, `visit_rr`) and listed (`ABIS_FORMS`, `A_FORMS`,
@@ -22,6 +27,7 @@ mod fault;
 mod field_fault;
 mod fields;
 mod form;
+mod layer3;
 mod name;
 mod rr;
 mod values;
@@ -39,7 +45,7 @@ pub use fields::{
 };
 pub use form::{FieldForm, MessageForm};
 pub use name::name_and_fields;
-pub use rr::{RR_FORMS, encode_rr, rr_name, visit_rr};
+pub use rr::{RR_FORMS, encode_rr, rr_name, says_rr, visit_rr};
 pub use values::{cell_in, neighbour_in};
 pub use visit::{FieldValue, Fields};
 pub use words::first_part;

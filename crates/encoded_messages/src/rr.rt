@@ -1,5 +1,5 @@
 //! Radio resource messages from words (TS 44.018 section 9.1).
-ghost use Rattle.std.specs.Prelude.{◌≡◌, ◌≢◌, ◌++◌, ◌∷◌, [], Ok, Err, Some, None, codes, option_map, OnOk, IfOk, IfErr, IfSome, MatchResult, All};
+ghost use Rattle.std.specs.Prelude.{◌≡◌, ◌≢◌, ◌++◌, ◌∷◌, [], Ok, Err, Some, None, codes, option_map, is_ok, OnOk, IfOk, IfErr, IfSome, MatchResult, All};
 ghost use Rattle.encoded_messages.specs.Fields.{only_keys};
 ghost use Rattle.encoded_messages.specs.Forms.{keys_of};
 ghost use Rattle.encoded_messages.specs.FieldFaults.{Value, read_of, read_map, fault_of};
@@ -39,7 +39,7 @@ const ATC: FieldForm<'static> = FieldForm("atc", Allowed::Flag);
 
 const POWER: FieldForm<'static> = FieldForm("power", Allowed::Number(31));
 
-const CAUSE: FieldForm<'static> = FieldForm("cause", Allowed::Number(255));
+const CAUSE: FieldForm<'static> = FieldForm("cause", Allowed::Cause);
 
 const TA: FieldForm<'static> = FieldForm("ta", Allowed::Number(255));
 
@@ -275,7 +275,7 @@ fn cause_alone<'a>(fields: &'a str, form: MessageForm<'static>) -> Result<RrCaus
     ensures { read_of result ≡ said.cause_alone fields.now }
 {
     only_fields(fields, form)?;
-    Ok(RrCause(CAUSE.octet(fields)?))
+    Ok(RrCause(CAUSE.cause(fields)?))
 }
 
 /// PHYSICAL INFORMATION
@@ -447,6 +447,65 @@ fn message_of<'a, A: Allocator>(
     } else {
         Err(MessageFault::Name(name))
     }
+}
+
+/// Whether fields say as many neighbours as are asked for, each as it may be. Takes no memory.
+#[tactic(auto, using(crate::proofs::RrLemmas::one_more, crate::proofs::RrLemmas::one_too_many))]
+fn are_neighbours(fields: &str, count: usize) -> bool
+    ensures { result ≡ said.are_so_many count (said.neighbours_in fields.now) }
+{
+    let mut left = fields;
+    let mut missing = count;
+    while let Some((value, rest)) = leading_value(left, N.0) {
+        if missing == 0 || neighbour_of(value).is_none() {
+            return false;
+        }
+        missing -= 1;
+        left = rest;
+    }
+    missing == 0
+}
+
+/// Whether fields say a MEASUREMENT REPORT. Takes no memory.
+#[tactic(auto, using(crate::proofs::RrLemmas::reported, crate::proofs::RrLemmas::unknown, crate::proofs::RrLemmas::headless))]
+fn says_report(fields: &str) -> bool
+    ensures { result ≡ is_ok (said.measurement_report fields.now) }
+{
+    if only_in_report(fields).is_err() {
+        return false;
+    }
+    match head(fields) {
+        Ok(head) => are_neighbours(fields, used(head.count)),
+        Err(_) => false,
+    }
+}
+
+/// Whether a name and its fields say a radio resource message. Takes no memory.
+#[tactic(auto, unfolding(crate::specs::Rr::message_of))]
+fn says_message(name: &str, fields: &str) -> bool
+    ensures { result ≡ is_ok (said.message_of name.now fields.now) }
+{
+    if name == HANDOVER_COMMAND.name {
+        handover_command(fields).is_ok()
+    } else if name == HANDOVER_COMPLETE.name {
+        cause_alone(fields, HANDOVER_COMPLETE).is_ok()
+    } else if name == HANDOVER_FAILURE.name {
+        cause_alone(fields, HANDOVER_FAILURE).is_ok()
+    } else if name == CHANNEL_RELEASE.name {
+        cause_alone(fields, CHANNEL_RELEASE).is_ok()
+    } else if name == PHYSICAL_INFORMATION.name {
+        physical_information(fields).is_ok()
+    } else {
+        name == MEASUREMENT_REPORT.name && says_report(fields)
+    }
+}
+
+/// Whether a text says a radio resource message: [`encode_rr`] gives its octets, memory aside. Takes no memory.
+pub fn says_rr(text: &str) -> bool
+    ensures said { result ≡ is_ok (said.message_in text.now) }
+{
+    let (name, fields) = name_and_fields(text);
+    says_message(name, fields)
 }
 
 /// The octets of the radio resource message that a text says: its canonical text.

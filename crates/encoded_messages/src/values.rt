@@ -60,6 +60,43 @@ pub(crate) fn octet_in(text: &str, most: u8) -> Option<u8>
     }
 }
 
+/// The value of a hexadecimal digit, in either case.
+fn hex_digit(digit: u8) -> Option<u8>
+    ensures digit { result ≡ said.hex_digit_of digit }
+    ensures most { IfSome result (λ value. value < 16) }
+{
+    char::from(digit).to_digit(16).map(|value| value as u8)
+}
+
+/// The octet of two hexadecimal digits.
+fn two_digits(high: u8, low: u8) -> Option<u8>
+    ensures { result ≡ said.two_digits_of high low }
+{
+    let high = hex_digit(high)?;
+    let low = hex_digit(low)?;
+    Some(16 * high + low)
+}
+
+/// The octet that a text writes in hexadecimal, behind `0x`.
+fn hex_octet(text: &str) -> Option<u8>
+    ensures { result ≡ said.hex_octet_of text.now }
+{
+    match text.as_bytes() {
+        [zero, x, high, low] if *zero == b'0' && *x == b'x' => two_digits(*high, *low),
+        _ => None,
+    }
+}
+
+/// The cause that a text writes: an octet in decimal, or in hexadecimal.
+pub(crate) fn cause_in(text: &str) -> Option<u8>
+    ensures { result ≡ said.cause_of text.now }
+{
+    match octet_in(text, 255) {
+        Some(cause) => Some(cause),
+        None => hex_octet(text),
+    }
+}
+
 /// The flag that a text writes.
 pub(crate) fn flag_in(text: &str) -> Option<bool>
     ensures { result ≡ said.flag_of text.now }

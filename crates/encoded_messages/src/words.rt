@@ -31,6 +31,28 @@ pub(crate) fn around_slash(text: &str) -> Option<(&str, &str)>
     text.split_once('/')
 }
 
+/// What stands before the first `;` of a text, and behind it; `None` where it has none.
+fn cut_at_semicolon(text: &str) -> Option<(&str, &str)>
+    ensures { option_map (λ cut. (cut.0.now, cut.1.now)) result ≡ said.cut_at 59 text.now }
+{
+    text.split_once(';')
+}
+
+/// What stands behind the blank with which a text begins.
+fn behind_blank(text: &str) -> Option<&str>
+    ensures { option_map (λ rest. rest.now) result ≡ said.behind_blank text.now }
+{
+    text.strip_prefix(' ')
+}
+
+/// What stands before the first `;` of a text, and behind the blank that follows it; `None` where there is none of the two.
+pub(crate) fn around_semicolon(text: &str) -> Option<(&str, &str)>
+    ensures { option_map (λ cut. (cut.0.now, cut.1.now)) result ≡ said.around_semicolon text.now }
+{
+    let (front, behind) = cut_at_semicolon(text)?;
+    Some((front, behind_blank(behind)?))
+}
+
 /// The key and the value of a word; `None` where it has no `=`.
 pub(crate) fn key_and_value(word: &str) -> Option<(&str, &str)>
     ensures { option_map (λ field. (field.0.now, field.1.now)) result ≡ said.field_of word.now }

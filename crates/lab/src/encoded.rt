@@ -54,6 +54,8 @@ impl fmt::Display for EncodeReason<'_> {
             MessageFault::Field(
                 FieldFault::Twice(_) | FieldFault::Value { .. } | FieldFault::NoMemory,
             )
+            | MessageFault::NoLayer3(_)
+            | MessageFault::Layer3(_)
             | MessageFault::Neighbours { .. }
             | MessageFault::TooLong
             | MessageFault::NoMemory => write!(f, "{fault}"),

@@ -73,6 +73,7 @@ fn are_octets(text: &str, is_cut: bool) -> bool {
 fn can_be(allowed: Allowed, value: &str, is_cut: bool) -> bool {
     match allowed {
         Allowed::Number(most) => is_number_to(value, most, is_cut),
+        Allowed::Cause => is_number_to(value, 255, is_cut),
         Allowed::OptionalOctet => value == "-" || is_number_to(value, 255, is_cut),
         Allowed::TrafficChannel => is_traffic_channel(value, is_cut),
         Allowed::Flag => is_number_to(value, 1, is_cut),
