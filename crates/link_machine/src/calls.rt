@@ -43,7 +43,7 @@ pub fn facts_of(calls: &[CallFacts], call: u16) -> CallFacts
 }
 
 /// Whether a channel is this one.
-fn is_target(chan: ChanId, target: Option<ChanId>) -> bool
+pub(crate) fn is_target(chan: ChanId, target: Option<ChanId>) -> bool
     ensures { result ≡ is_target chan target }
 {
     match target {

@@ -1,9 +1,8 @@
 //! What one channel does.
 ghost use Rattle.std.specs.Prelude.{◌≡◌};
-ghost use Rattle.radio_book.specs.Table.{is_target};
 ghost use Rattle.link_machine.specs.Moving.{still, moved_by, hears, ended, told, agreed, before_of, standing, keeping, kept, is_from_air, bar_phase, settled_by, settled};
 
-use crate::calls::{CallFacts, facts_of, holder_of};
+use crate::calls::{CallFacts, facts_of, holder_of, is_target};
 use crate::channel::Channel;
 use channel_fsm::{ChanId, ChanState};
 use link_tables::{
@@ -151,16 +150,6 @@ fn before_of(turn: TurnFacts, channel: Channel) -> ChanState
     match turn.about {
         Some((chan, before)) if chan == channel.chan => before,
         Some(_) | None => agreed(channel.lchan),
-    }
-}
-
-/// Whether a channel is this one.
-fn is_target(chan: ChanId, target: Option<ChanId>) -> bool
-    ensures { result ≡ is_target chan target }
-{
-    match target {
-        Some(target) => target == chan,
-        None => false,
     }
 }
 

@@ -1,5 +1,3 @@
--- a fault of the first octets is one of the head
-pub mod Early
 -- octets begin with one head, or have one fault before the body
 pub mod Unique
 -- what holds of each kind of message, kind by kind

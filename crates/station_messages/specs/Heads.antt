@@ -27,22 +27,8 @@ Begins heads kind octets body = (d : ℕ) × (t : ℕ) × (octets ≡ d ∷ t �
 abbrev pub BeginsWithin : {Kind : Type 0} → Heads Kind → Kind → List ℕ → List ℕ → Type 0
 BeginsWithin heads kind octets body = (length octets ≤ limit) × Begins heads kind octets body
 
--- The octets have this fault in their head: no octet, or a discriminator of messages that aren't about a channel; a discriminator
--- and no type; a type that no message of the table has.
-abbrev pub HasHeadFault : {Kind : Type 0} → Heads Kind → List ℕ → RslFault → Type 0
-HasHeadFault heads octets NotRsl = (octets ≡ []) ⊎ ((d : ℕ) × (rest : List ℕ) × (octets ≡ d ∷ rest) × (IsDiscriminator d → ⊥))
-HasHeadFault heads octets (Torn at) = (d : ℕ) × (octets ≡ d ∷ []) × IsDiscriminator d × (at ≡ 1)
-HasHeadFault {Kind} heads octets (UnknownType t) = (d : ℕ) × (body : List ℕ) × (octets ≡ d ∷ t ∷ body) × IsDiscriminator d × ((kind : Kind) → IsHead heads kind d t → ⊥)
-HasHeadFault heads octets TooLong = ⊥
-HasHeadFault heads octets (Missing i) = ⊥
-HasHeadFault heads octets (BadElement i) = ⊥
-HasHeadFault heads octets NoMemory = ⊥
-
--- the first fault before the body: there are too many octets; else the head has it
-abbrev pub HasEarlyFault : {Kind : Type 0} → Heads Kind → List ℕ → RslFault → Type 0
-HasEarlyFault heads octets f = ((limit < length octets) × (f ≡ TooLong)) ⊎ ((length octets ≤ limit) × HasHeadFault heads octets f)
-
--- the first fault before the body, whatever messages there are: one that a type has is none of these
+-- The first octets have this fault, whatever messages there are: there are too many; none, or a discriminator of messages that aren't
+-- about a channel; a discriminator and no type.
 abbrev pub HasSplitFault : List ℕ → RslFault → Type 0
 HasSplitFault octets NotRsl = (length octets ≤ limit) × ((octets ≡ []) ⊎ ((d : ℕ) × (rest : List ℕ) × (octets ≡ d ∷ rest) × (IsDiscriminator d → ⊥)))
 HasSplitFault octets (Torn at) = (length octets ≤ limit) × ((d : ℕ) × (octets ≡ d ∷ []) × IsDiscriminator d × (at ≡ 1))
@@ -51,6 +37,14 @@ HasSplitFault octets TooLong = limit < length octets
 HasSplitFault octets (Missing i) = ⊥
 HasSplitFault octets (BadElement i) = ⊥
 HasSplitFault octets NoMemory = ⊥
+
+-- The octets have a type that no message of the table has.
+abbrev pub HasTypeFault : {Kind : Type 0} → Heads Kind → List ℕ → RslFault → Type 0
+HasTypeFault {Kind} heads octets f = (length octets ≤ limit) × ((d : ℕ) × (t : ℕ) × (body : List ℕ) × (octets ≡ d ∷ t ∷ body) × IsDiscriminator d × ((kind : Kind) → IsHead heads kind d t → ⊥) × (f ≡ UnknownType t))
+
+-- the first fault before the body
+abbrev pub HasEarlyFault : {Kind : Type 0} → Heads Kind → List ℕ → RslFault → Type 0
+HasEarlyFault heads octets f = HasSplitFault octets f ⊎ HasTypeFault heads octets f
 
 -- The codec of messages that have these heads, and whose elements say this. None keeps a list.
 abbrev pub codec_of : {Kind V : Type 0} → Heads Kind → (Kind → Lookup → Result V ValueFault) → Codec Kind V RslFault

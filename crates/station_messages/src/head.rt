@@ -99,7 +99,6 @@ pub fn split(octets: &[u8]) -> Result<(u8, u8, &[u8]), RslFault>
 }
 
 /// Which message the octets are, and the elements behind that.
-#[tactic(auto, using(crate::proofs::Early::split_early))]
 fn read_type(octets: &[u8]) -> Result<(MessageType, &[u8]), RslFault>
     ensures found { IfOk result (λ h. BeginsWithin type_head h.0 octets.now h.1.now) }
     ensures fault { IfErr result (HasEarlyFault type_head octets.now) }

@@ -32,7 +32,6 @@ fn kind_for(discriminator: u8, message_type: u8) -> Option<MessageKind>
 }
 
 /// Which message the octets are, and the elements behind that.
-#[tactic(auto, using(crate::proofs::Early::split_early))]
 fn read_kind(octets: &[u8]) -> Result<(MessageKind, &[u8]), RslFault>
     ensures found { IfOk result (λ h. BeginsWithin kind_head h.0 octets.now h.1.now) }
     ensures fault { IfErr result (HasEarlyFault kind_head octets.now) }
