@@ -6,7 +6,6 @@ use Rattle.link_tables.specs.declared.Act.TheVariants.{Give, Pass, Count, Refuse
 use Rattle.link_tables.specs.declared.Lchan.TheVariants.{Rest}
 use Rattle.link_tables.specs.declared.Step.{Step}
 use Rattle.link_machine.specs.declared.channel.Channel.{Channel}
-use Rattle.link_machine.specs.declared.channel.InPlace.{InPlace}
 use Rattle.link_machine.specs.declared.channel.InPlace.TheVariants as owed
 
 -- at rest, and its station isn't there

@@ -2,5 +2,8 @@ pub mod Channels
 pub mod Calls
 pub mod Moving
 pub mod Machine
+pub mod Timers
+pub mod Stations
+pub mod Attempts
 pub mod Passes
 pub mod Laws

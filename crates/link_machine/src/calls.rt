@@ -9,14 +9,15 @@ use radio_book::book::Book;
 use radio_book::event::{CallRecord, Timer};
 use std::alloc::Allocator;
 
-/// What is known of a call besides the book: what it is for, and where its mobile is.
+/// What is known of a call besides the book: what it is for, and where its mobile is. All but its timer is said by whoever has the
+/// links of the call, and is forgotten with the call.
 #[derive(Clone, Copy, Debug, PartialEq, Eq)]
 pub struct CallFacts {
     /// Whether its mobile was told to leave the channel that it is served on, and wasn't heard since.
     pub is_away: bool,
     /// Whether its measurement reports are heeded.
     pub reports: bool,
-    /// Whether it came from the air.
+    /// Whether it came from the air: whoever has it opened for a mobile says so before.
     pub is_from_air: bool,
     /// The timer that runs for it.
     pub timer: Option<Timer>,

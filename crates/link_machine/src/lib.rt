@@ -2,21 +2,28 @@
 //! the rows of docs/LINKS.md.
 //!
 //! A [`Machine`] has a [`Channel`] for each traffic channel of a site, and what is known of calls ([`CallFacts`]). It is told that
-//! the link of a TRX comes or goes ([`Machine::link`]), and behind each turn of the controller that the book may have moved
-//! ([`Machine::settle`]); each appends what is to be done, channel by channel. [`told`] is what one channel does where something is
-//! heard about it. The machine asks no desk: what is to be said to the book is owed to the controller, as inputs in another's place
-//! ([`InPlace`]).
+//! the link of a TRX comes or goes ([`Machine::link`]), what is heard about a channel ([`Machine::tell`]; [`said_by`] says what a
+//! station's message is to it), and behind each turn of the controller that the book may have moved ([`Machine::settle`]). Each says
+//! what is to be done. The machine asks no desk: what is to be said to the book is owed to the controller, as inputs in another's
+//! place ([`InPlace`], [`Machine::take_owed`]). Of the events of a turn it is told one by one, too: timers of calls follow the book
+//! ([`Machine::follow`]), and a failure that was kept is told behind an attempt ([`Machine::end_attempt`]).
 #![tactic(auto)]
 
+mod attempts;
 mod calls;
 mod channel;
 mod laws;
 mod machine;
 mod moving;
 mod pass;
+mod stations;
+mod timers;
 
+pub use attempts::undone_on;
 pub use calls::CallFacts;
 pub use channel::{Channel, InPlace};
-pub use laws::settled_agrees;
+pub use laws::{settled_agrees, timers_follow};
 pub use machine::Machine;
 pub use moving::{Done, Moved, TurnFacts, Word, settled, told};
+pub use stations::{Said, said_by};
+pub use timers::TimerChange;

@@ -1,20 +1,28 @@
 //! All channels of a site.
-ghost use Rattle.std.specs.Prelude.{◌≡◌, ◌++◌, map, Ok, None, IfOk, OnOk, slice_set};
-ghost use Rattle.std.specs.FinMap as finite;
+ghost use Rattle.std.specs.Prelude.{◌≡◌, ◌↔◌, ◌++◌, map, position, replicate, Ok, None, IfOk, OnOk, slice_set};
 ghost use Rattle.cell_table.specs.Site.{channels, index_of};
-ghost use Rattle.link_machine.specs.Channels.{fresh, listed};
-ghost use Rattle.link_machine.specs.Calls.{facts_of};
+ghost use Rattle.radio_book.specs.Kinds.{call_of};
+ghost use Rattle.link_machine.specs.Attempts.{undone_on, if_moved, if_done};
+ghost use Rattle.link_machine.specs.Channels.{fresh, listed, owes};
+ghost use Rattle.link_machine.specs.Calls.{plain, facts_of};
 ghost use Rattle.link_machine.specs.Laws.{AllAgree};
-ghost use Rattle.link_machine.specs.Machine.{all_moved, all_done, channel_at};
+ghost use Rattle.link_machine.specs.Machine.{all_moved, all_done, channel_at, one_moved, one_done, owed_of, first_owed, first_paid, IsOwedNothing};
+ghost use Rattle.link_machine.specs.Moving.{told};
 ghost use Rattle.link_machine.specs.Passes.{passed};
+ghost use Rattle.link_machine.specs.Timers.{change_by, followed_by};
 
+use crate::attempts::undone_on;
 use crate::calls::{CallFacts, facts_of};
-use crate::channel::Channel;
-use crate::moving::{Done, TurnFacts};
+use crate::channel::{Channel, InPlace};
+use crate::moving::{Done, TurnFacts, Word, told};
 use crate::pass::{Pass, go_through};
+use crate::timers::{TimerChange, change_of, with_timer};
 use cell_table::Site;
 use channel_fsm::ChanId;
+use link_tables::AttemptEnd;
 use radio_book::book::Book;
+use radio_book::event::{Event, Reply};
+use radio_book::facts;
 use std::alloc::{AllocError, Allocator, Global};
 use std::sync::Arc;
 
@@ -60,15 +68,47 @@ fn fresh_channels<A: Allocator + Copy>(
     Ok(found)
 }
 
+/// So many calls of which nothing is known.
+fn plain_calls<A: Allocator>(alloc: A, count: usize) -> Result<Vec<CallFacts, A>, AllocError>
+    ensures plain { IfOk result (λ calls. calls.items ≡ replicate count plain) }
+{
+    Vec::from_elem(alloc, CallFacts::PLAIN, count)
+}
+
+/// The place of the first channel about which the controller is owed something.
+fn first_owing(channels: &[Channel]) -> Option<usize>
+    ensures { result ≡ position owes channels.now }
+{
+    channels.iter().position(|channel| owes(channel))
+}
+
+/// Whether the controller is owed something about a channel.
+fn owes(channel: &Channel) -> bool
+    ensures { result ≡ owes channel.now }
+{
+    channel.owed.is_some()
+}
+
+/// What the controller is owed about a channel.
+fn owed_of(channel: Channel) -> Option<(ChanId, InPlace)>
+    ensures { result ≡ owed_of channel }
+{
+    match channel.owed {
+        Some(what) => Some((channel.chan, what)),
+        None => None,
+    }
+}
+
 impl<A: Allocator + Copy> Machine<A> {
     /// All channels of a site are at rest, no station is there, and nothing is known of calls.
     pub fn new(alloc: A, site: Arc<Site<A>, A>) -> Result<Machine<A>, AllocError>
         ensures site { IfOk result (λ machine. machine.site.value ≡ site.value) }
         ensures channels { IfOk result (λ machine. machine.channels.items ≡
             map fresh (channels site.value)) }
+        ensures calls { IfOk result (λ machine. machine.calls.items ≡ replicate CALLS plain) }
     {
         let channels = fresh_channels(alloc, &site)?;
-        let calls = Vec::from_elem(alloc, CallFacts::PLAIN, CALLS)?;
+        let calls = plain_calls(alloc, CALLS)?;
         Ok(Machine {
             site,
             channels,
@@ -101,6 +141,77 @@ impl<A: Allocator + Copy> Machine<A> {
         if place < self.calls.len() {
             self.calls[place] = facts;
         }
+    }
+
+    /// A channel is told something, and does what its row says. `None`, and nothing is done, where the site has no such channel.
+    pub fn tell(&mut self, book: &Book<A>, chan: ChanId, word: Word) -> Option<Done>
+        ensures done { result ≡ one_done (told book.now self.old.calls.items word)
+            self.old.site.value self.old.channels.items chan }
+        ensures channels { self.new.channels.items ≡ one_moved (told book.now self.old.calls.items word)
+            self.old.site.value self.old.channels.items chan }
+        ensures calls { self.new.calls.items ≡ self.old.calls.items }
+        ensures site { self.new.site.value ≡ self.old.site.value }
+    {
+        let place = self.site.index_of(chan)?;
+        let channel = *self.channels.get(place)?;
+        let moved = told(book, &self.calls, channel, word);
+        self.channels[place] = moved.channel;
+        Some(moved.done)
+    }
+
+    /// What the controller is owed about a channel, the first by its place about which it is owed anything; it is owed that no
+    /// more. `None`, just where it is owed nothing.
+    pub fn take_owed(&mut self) -> Option<(ChanId, InPlace)>
+        ensures owed { result ≡ first_owed self.old.channels.items }
+        ensures channels { self.new.channels.items ≡ first_paid self.old.channels.items }
+        ensures none { (result ≡ None) ↔ IsOwedNothing self.old.channels.items }
+        ensures calls { self.new.calls.items ≡ self.old.calls.items }
+        ensures site { self.new.site.value ≡ self.old.site.value }
+    {
+        let place = first_owing(&self.channels)?;
+        let channel = *self.channels.get(place)?;
+        self.channels[place] = Channel {
+            owed: None,
+            ..channel
+        };
+        owed_of(channel)
+    }
+
+    /// An event that the book has judged in the turn that it has behind it: the timer of the event's call runs from here on just
+    /// where the book has it armed. What stops and starts; `None` where nothing does. All events of a turn are followed.
+    pub fn follow(&mut self, book: &Book<A>, event: Event) -> Option<TimerChange>
+        ensures change { result ≡ change_by book.now self.old.calls.items (call_of event) }
+        ensures calls { self.new.calls.items ≡
+            followed_by book.now self.old.calls.items (call_of event) }
+        ensures channels { self.new.channels.items ≡ self.old.channels.items }
+        ensures site { self.new.site.value ≡ self.old.site.value }
+    {
+        let call = facts::facts_of(event).about.call()?;
+        let known = self.facts(call);
+        let timer = book.timer(call);
+        self.set_facts(call, with_timer(known, book.record(call), timer));
+        change_of(call, known.timer, timer)
+    }
+
+    /// An event of a turn, with its reply: where it takes an attempt at handover back, that ended so, and the channel on which its
+    /// call is served tells a failure that was kept, or drops it.
+    pub fn end_attempt(
+        &mut self,
+        book: &Book<A>,
+        event: Event,
+        reply: Reply,
+        end: AttemptEnd,
+    ) -> Option<Done>
+        ensures done { result ≡ if_done (told book.now self.old.calls.items (Word.AttemptEnded end))
+            self.old.site.value self.old.channels.items (undone_on event reply) }
+        ensures channels { self.new.channels.items ≡
+            if_moved (told book.now self.old.calls.items (Word.AttemptEnded end))
+            self.old.site.value self.old.channels.items (undone_on event reply) }
+        ensures calls { self.new.calls.items ≡ self.old.calls.items }
+        ensures site { self.new.site.value ≡ self.old.site.value }
+    {
+        let chan = undone_on(event, reply)?;
+        self.tell(book, chan, Word::AttemptEnded(end))
     }
 
     /// The link of a TRX of a cell has come, or is gone: each of its channels does what its row says.

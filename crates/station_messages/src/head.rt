@@ -6,7 +6,8 @@ ghost use Rattle.rsl_messages.specs.Forms.{known};
 ghost use Rattle.rsl_messages.specs.Heads.{IsDiscriminator};
 ghost use Rattle.rsl_messages.specs.Texts.{limit};
 ghost use Rattle.station_messages.specs.Heads.{IsHead, BeginsWithin, HasEarlyFault, HasSplitFault};
-ghost use Rattle.station_messages.specs.Types.{type_head, head_said, head_codec};
+ghost use Rattle.octet_elements.specs.Values.{value_seen};
+ghost use Rattle.station_messages.specs.Types.{type_head, first_octet, rr_type, head_said, head_codec};
 
 use crate::elements::channel;
 use octet_elements::Found;
@@ -36,12 +37,21 @@ pub enum MessageType {
     ListenerDetection,
 }
 
-/// Which message octets are, and the channel that they name, whatever else they hold.
+/// Which message octets are, the channel that they name, and what of them says whom they are for, whatever else they hold.
 #[derive(Clone, Copy, Debug, PartialEq, Eq)]
 pub struct Head {
     pub message: MessageType,
     pub channel: ChanBits,
+    /// The link identifier, where it has one (clause 9.3.2); 0 is the main signalling channel with SAPI 0.
+    pub link: Option<u8>,
+    /// The type of the radio resource message inside (TS 44.018 clause 10.4), where its L3 information begins as such a message.
+    pub rr_type: Option<u8>,
 }
+
+// Identifiers (TS 48.058 clause 9.3).
+const LINK_IDENTIFIER: u8 = 0x02;
+
+const LAYER3: u8 = 0x0B;
 
 /// A message has at most so many octets.
 const LIMIT: usize = 1024;
@@ -108,6 +118,26 @@ fn read_type(octets: &[u8]) -> Result<(MessageType, &[u8]), RslFault>
     Ok((kind, body))
 }
 
+/// The first octet of an element that may be missing, or empty.
+fn first_octet(value: Option<&[u8]>) -> Option<u8>
+    ensures { result ≡ first_octet (value_seen value.entry) }
+{
+    match value {
+        Some([octet, ..]) => Some(*octet),
+        Some([]) | None => None,
+    }
+}
+
+/// The type of a radio resource message (TS 44.018 clauses 10.2 to 10.4): its discriminator is 6, without a skip indicator.
+fn rr_type(layer3: Option<&[u8]>) -> Option<u8>
+    ensures { result ≡ rr_type (value_seen layer3.entry) }
+{
+    match layer3 {
+        Some([discriminator, message_type, ..]) if *discriminator == 6 => Some(*message_type),
+        Some([_, ..]) | Some([]) | None => None,
+    }
+}
+
 /// The head of a message with these elements.
 fn head_of(message: MessageType, found: &Found<'_, Abis>) -> Result<Head, RslFault>
     ensures { Answers head_codec result (head_said message (lookup known found.now)) }
@@ -115,6 +145,8 @@ fn head_of(message: MessageType, found: &Found<'_, Abis>) -> Result<Head, RslFau
     Ok(Head {
         message,
         channel: channel(found)?,
+        link: first_octet(found.first(LINK_IDENTIFIER)),
+        rr_type: rr_type(found.first(LAYER3)),
     })
 }
 
@@ -139,8 +171,8 @@ fn read(octets: &[u8]) -> Result<Head, RslFault>
     read_body(message, body)
 }
 
-/// Which message of a station octets are, and the channel that they name (TS 48.058 clause 9.3.1). Elements may stand in any order;
-/// they are whole, and what others than the channel number hold isn't looked at. An `Err` is the first fault in the order that
+/// Which message of a station octets are, the channel that they name (TS 48.058 clause 9.3.1), and what of them says whom they are
+/// for. Elements may stand in any order; they are whole, and what others than these hold isn't looked at. An `Err` is the first fault in the order that
 /// [`RslFault`] says; it is `NotRsl` for all that isn't about a channel. It takes no memory.
 pub fn read_head(octets: &[u8]) -> Result<Head, RslFault>
     ensures decodes { Decodes head_codec octets.now result }

@@ -1,0 +1,5 @@
+use Rattle.link_machine.proofs.TimersRun.{timers_follow, no_timers_run}
+use Rattle.link_machine.proofs.laws.timers_follow.Goals as goal
+
+pub returns : goal.returns
+returns c = record { follow = timers_follow; begin = no_timers_run }

@@ -1,0 +1,28 @@
+//! Attempts at handover that were taken back.
+ghost use Rattle.std.specs.Prelude.{◌≡◌};
+ghost use Rattle.link_machine.specs.Attempts.{shown_on, undone_on};
+
+use channel_fsm::ChanId;
+use radio_book::event::{Event, Reply};
+use radio_book::facts;
+
+/// The channel on which the call that a reply shows is served.
+fn shown_on(reply: Reply) -> Option<ChanId>
+    ensures { result ≡ shown_on reply }
+{
+    match reply {
+        Reply::Record(shown, _) => shown.serving,
+        Reply::Done | Reply::Owned(_) | Reply::Refused(_) => None,
+    }
+}
+
+/// The channel on which a call is served whose attempt at handover is taken back by this event, as its reply shows. `None` where
+/// none is, or where the call is served nowhere: it came from another controller.
+pub fn undone_on(event: Event, reply: Reply) -> Option<ChanId>
+    ensures served { result ≡ undone_on event reply }
+{
+    match facts::facts_of(event).undoes {
+        Some(_) => shown_on(reply),
+        None => None,
+    }
+}
