@@ -90,6 +90,7 @@ fn has_octets(allowed: Allowed) -> bool {
     match allowed {
         Allowed::Octets(_) | Allowed::OptionalOctets(_) => true,
         Allowed::Number(_)
+        | Allowed::Cause
         | Allowed::OptionalOctet
         | Allowed::TrafficChannel
         | Allowed::Flag
