@@ -1,6 +1,7 @@
 """A mobile asks for a channel (TS 44.018, 3.3.1): the messages of that on Abis (TS 48.058) and on the air."""
 import dataclasses
 import enum
+import itertools
 
 from rsl import CHANNEL_NUMBER, COMMON, kind
 
@@ -13,8 +14,9 @@ RACH, ANSWERS = 0x88, 0x90
 # The largest timing advance (TS 44.018, 10.5.2.40).
 FARTHEST = 63
 # Of IMMEDIATE ASSIGNMENT and its REJECT (TS 44.018, 9.1.18 and 9.1.20) the discriminator and the type, page mode 'same as
-# before' (10.5.2.26) with a dedicated channel, what fills the rest of a frame, and how long that is.
-ASSIGNED, REJECTED, SAME_AS_BEFORE, FILL, FRAME = b"\x06\x3f", b"\x06\x3a", b"\x03", b"\x2b", 23
+# before' (10.5.2.26) with a dedicated channel, what fills the rest of a frame, and how long that is; and how many requests a
+# REJECT has.
+ASSIGNED, REJECTED, SAME_AS_BEFORE, FILL, FRAME, MOST_REJECTED = b"\x06\x3f", b"\x06\x3a", b"\x03", b"\x2b", 23, 4
 
 
 class Cause(enum.Enum):
@@ -104,10 +106,11 @@ def assignment(request, description):
     return on_answers(bytes([len(body) << 2 | 1]) + body)
 
 
-def rejection(request, wait):
-    """IMMEDIATE ASSIGNMENT REJECT (9.1.20): the mobile asks no more for so many seconds (T3122). There is room for four
-    references, of which the same may stand again."""
-    body = REJECTED + SAME_AS_BEFORE + (request.reference + bytes([wait])) * 4
+def rejection(requests, wait):
+    """IMMEDIATE ASSIGNMENT REJECT (9.1.20) of one to four requests: their mobiles ask no more for so many seconds (T3122). Where
+    there are fewer than four, they stand again, the first ones first (9.1.20.3)."""
+    references = itertools.islice(itertools.cycle(it.reference for it in requests), MOST_REJECTED)
+    body = REJECTED + SAME_AS_BEFORE + b"".join(it + bytes([wait]) for it in references)
     return on_answers(bytes([len(body) << 2 | 1]) + body)
 
 

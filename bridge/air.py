@@ -1,11 +1,10 @@
 """Calls that begin on the air (TS 44.018, 3.3.1): a mobile asks for a channel, gets one for signalling and speech at once
 (very early assignment), and makes itself known; then its messages go to the centre, and the centre's to it."""
-import enum
-
 import access
 import bssmap
 import link_layer
 import rsl
+from admission import HALF, Admission, Rejected, Rejections
 from assignment import MODE_MODIFY_ACKNOWLEDGE, Mode
 from ciphering import COMPLETE
 from operators import Operator
@@ -21,16 +20,6 @@ MOST_WAITING = 64
 LINK_FAILURE = b"\x1a\x01\x01"
 
 
-class Rejected(enum.Enum):
-    """Why a mobile that asks for a channel is rejected."""
-
-    NONE_FREE = "no channel is free"
-    STATION = "the station refuses the channel"
-    AWAITED = "too many mobiles are awaited"
-    NO_CENTRE = "the centre isn't there"
-    NO_NUMBER = "no number of a call is free"
-
-
 class Seizing(Operator):
     """Who asks the controller for some channel of a cell, as operators ask it: hears what it answers, line by line."""
 
@@ -44,9 +33,11 @@ class Seizing(Operator):
         """A line of the answer. Where nothing is free, half a channel is asked for, if that will do. A controller that
         can't read the question refuses it."""
         if line.startswith(b"none free ") and self.may_be_half and not self.call.is_clearing:
-            self.air.seize(self.call, b"half", False)
+            self.air.seize(self.call, HALF, False)
         elif line.startswith((b"none free ", b"refused: ")) or line.startswith(b"event open ") and b" -> refused" in line:
             self.air.reject(self.call)
+        elif line.startswith(b"event open "):
+            self.air.given(self.call)
 
 
 class Air:
@@ -54,8 +45,10 @@ class Air:
 
     def __init__(self, relay, times, seconds, config):
         self.relay, self.times, self.seconds = relay, times, seconds
-        self.cells, self.neci, self.most_awaited = config.cells, config.broadcast.neci, config.awaited
+        self.cells = config.cells
         self.short = ShortLinks(relay, times, seconds)
+        self.admission = Admission(self, times, config)
+        self.rejections = Rejections(times, self.send_common, seconds["t3122"])
         self.requests = set()
 
     # A mobile asks for a channel
@@ -74,7 +67,7 @@ class Air:
         else:
             self.remember(station.cell, request.reference)
             self.relay.tallies.requested(station.cell, request.cause)
-            self.begin(station, request)
+            self.admission.add(station, request)
 
     def remember(self, cell, reference):
         """A request that comes again is the same, for a while."""
@@ -84,26 +77,27 @@ class Air:
         self.times.set(("request", cell, reference), KNOWN_AGAIN, lambda: self.requests.discard((cell, reference)))
 
     def begin(self, station, request):
-        """A call begins, where the centre is there and not too many mobiles are awaited."""
-        if not self.relay.a_side.is_there:
-            self.refuse(station, request, Rejected.NO_CENTRE)
-            return
-        if self.relay.talks.awaited(station.cell) >= self.most_awaited:
-            self.refuse(station, request, Rejected.AWAITED)
-            return
+        """A call begins, whose mobile may be served."""
         if (call := self.relay.talks.begin()) is None:
             self.refuse(station, request, Rejected.NO_NUMBER)
             return
         call.station, call.request, call.is_awaited = station, request, True
-        self.seize(call, b"full", self.neci == 1 and request.cause.takes_half)
+        first, *others = self.admission.rates(station.cell, request.cause)
+        self.seize(call, first, HALF in others)
 
     def seize(self, call, rate, may_be_half):
         """Asks the controller for some channel."""
+        self.admission.asked(call.station.cell)
         line = b"seize %d %d %s" % (call.number, call.station.cell, rate)
         self.relay.give(line, Seizing(self, call, may_be_half))
 
+    def given(self, call):
+        """A call gets a channel."""
+        self.admission.answered(call.station.cell)
+
     def reject(self, call):
         """A call gets no channel."""
+        self.admission.answered(call.station.cell)
         self.refuse(call.station, call.request, Rejected.NONE_FREE)
         self.relay.forget(call)
 
@@ -111,7 +105,7 @@ class Air:
         """Tells a mobile that it gets no channel, and for how long it is not to ask again."""
         station.pass_over("CHANNEL REQUIRED that was rejected")
         self.relay.tallies.reject(station.cell, reason.value)
-        self.send_common(station, access.rejection(request, round(min(self.seconds["t3122"], 255))))
+        self.rejections.add(station, request)
 
     def activated(self, call):
         """The channel of a call is on: where a mobile asked for it, that is told, and awaited (T3101)."""

@@ -3,7 +3,7 @@ import collections
 
 import access
 import tallies
-from air import Rejected
+from admission import Rejected
 from exposition import COUNTER, GAUGE, Family
 from rsl import CAUSES
 from sites import RATES, free_in
@@ -63,7 +63,10 @@ def of_cells_of_network(relay):
     awaited = Family("gofnild_cell_awaited_mobiles", GAUGE, "Calls that await their mobile.")
     for cell in cells_of(relay):
         awaited.add(relay.talks.awaited(cell), cell=cell)
-    return [awaited, *counted(relay, COUNTED_OF_NETWORK)]
+    waiting = Family("gofnild_cell_waiting_requests", GAUGE, "Requests of mobiles for a channel that wait for their turn.")
+    for cell in cells_of(relay):
+        waiting.add(relay.air.admission.waiting(cell), cell=cell)
+    return [awaited, waiting, *counted(relay, COUNTED_OF_NETWORK)]
 
 
 def cells_of(relay):

@@ -614,13 +614,17 @@ def lost_station(start, _room, _program):
 
 
 def flood(start, _room, _program):
-    """A thousand bursts at once: as many channels are given as there are, or may await a mobile, the others are rejected;
-    all come back, and a mobile registers."""
+    """A thousand bursts at once: as many channels are given as there are, or may await a mobile, the others are rejected, four by
+    a message; all come back, and a mobile registers."""
     run = start(awaited=1, t3101=2 * SLOW)
     station, other = run.begin(), run.station(SECOND)
     station.send(b"".join(ipa.frame(0, bytes.fromhex(f"0c1301881305{place:04x}1100")) for place in range(1000)))
-    for place in range(999):
-        sent(station, "0c1601902b174d063a03.*")
+    told = set()
+    while len(told) < 999:
+        requests = sent(station, "0c1601902b174d063a03" + "(......)0a" * 4 + "2b2b2b").groups()
+        must(len(set(requests)) == 4 or len(told) >= 996, f"only {len(set(requests))} requests are told together")
+        must(not told & set(requests), "a request is told twice")
+        told |= set(requests)
     run.expect("^in clear 1$", "^event released 0/0/1 -> done$")
     must(sum(line.startswith("in seize") for line in run.out.lines) == 1, "more than one mobile is awaited")
     clear(run, station, *register(run, station, reference="e10a0d"))
@@ -702,6 +706,8 @@ def bad_config(start, room, _program):
         (("[gateway]\nport", "[gateway]\nhost"), "gateway.host: no such key is known"),
         (("gateway-repeat = 120", "gateway-repeat = 0"), "timers.gateway-repeat: a number of seconds over 0 and under a million"),
         (("retry = 0.2", "t9 = 1"), "timers.t9: no such key is known, not 1"),
+        (("emergency_reserve = 0", "emergency_reserve = -1"), "emergency_reserve: a whole number from 0 to 32 is allowed, not -1"),
+        (("neci = 1", "barred_classes = [10]"), "broadcast.barred_classes: a list of access classes, 0 to 9 and 11 to 15, is allowed"),
         (("awaited = 4", "awaited = true"), "awaited: a whole number from 1 to 1024 is allowed, not True"),
         (('site = "site.toml"', 'site = "none.toml"'), 'site: the path of a site, which is a file, is allowed, not "none.toml"'),
         (('mcc = "001"', 'mcc = "\u0661\u0662\u0663"'), "network.mcc: a country code of three digits, in quotes, is allowed"),

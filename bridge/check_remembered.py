@@ -5,6 +5,7 @@ import socket
 import types
 
 import access
+from admission import TOGETHER
 from air import Air
 from faults import Faults
 from gateway import Gateway
@@ -31,6 +32,10 @@ class Clock:
         """Doesn't do it."""
         self.later.pop(name, None)
 
+    def is_set(self, name):
+        """Whether something is to be done under this name."""
+        return name in self.later
+
     def go_on(self, seconds):
         """So many seconds pass."""
         self.now += seconds
@@ -40,16 +45,17 @@ class Clock:
 
 
 class Told:
-    """A relay without a centre: each request is rejected. What is sent is counted."""
+    """A relay without a centre: each request is rejected. Those that are told so are counted."""
 
     def __init__(self):
         self.a_side = types.SimpleNamespace(is_there=False)
         self.tallies = Tallies(calls={})
         self.places, self.sent = {}, 0
 
-    def pass_on(self, _station, _message):
-        """Takes a message for a station."""
-        self.sent += 1
+    def pass_on(self, _station, message):
+        """Takes IMMEDIATE ASSIGNMENT REJECT (TS 44.018, 9.1.20), behind the head of Abis and of layer 3: four requests, or the same
+        again, each with how long it isn't to ask."""
+        self.sent += len({message[10 + at : 13 + at] for at in range(0, 16, 4)})
 
 
 def required(place):
@@ -63,21 +69,25 @@ def required(place):
 def requests_are_bounded(_start, _room, _program):
     """So many requests of mobiles are known again, and no more, however many come; each for so many seconds."""
     clock, relay, station = Clock(), Told(), Station("6969/0/0", 0, 0, ())
-    config = types.SimpleNamespace(cells=[], broadcast=types.SimpleNamespace(neci=1), awaited=4)
+    config = types.SimpleNamespace(cells=[], broadcast=types.SimpleNamespace(neci=1), awaited=4, emergency_reserve=0)
     air = Air(relay, clock, {"t3122": 10.0}, config)
     for place in range(2 * REQUESTS):
         air.required(station, required(place))
+    clock.go_on(TOGETHER)
+    clock.go_on(TOGETHER)
     must(len(air.requests) == REQUESTS, f"{len(air.requests)} requests are known")
     must(relay.sent == 2 * REQUESTS, f"{relay.sent} mobiles are answered")
     # the first is known, and isn't answered again; the last is as a new one
     for place, more in ((0, 0), (2 * REQUESTS - 1, 1)):
         before = relay.sent
         air.required(station, required(place))
+        clock.go_on(TOGETHER)
+        clock.go_on(TOGETHER)
         must(relay.sent == before + more, f"request {place} is answered {relay.sent - before} times more")
     must(station.passed["CHANNEL REQUIRED again"] == 1, f"it is counted otherwise: {station.passed}")
-    clock.go_on(REQUESTS_FOR - 0.1)
+    clock.go_on(REQUESTS_FOR - 0.1 - clock.now)
     must(len(air.requests) == REQUESTS, f"{len(air.requests)} requests are known for as long as they are to be")
-    clock.go_on(0.1)
+    clock.go_on(REQUESTS_FOR - clock.now)
     must(not air.requests and not clock.later, f"{len(air.requests)} requests are known for longer")
 
 

@@ -5,6 +5,7 @@ import os
 import pathlib
 import tomllib
 
+from barring import CLASSES
 from stations import Station
 from timers import OF_NETWORK, OF_STATIONS
 from toml_keys import Faults, Table, shown
@@ -56,8 +57,9 @@ class Broadcast:
     t3212: int
     # the level at which telephones send at most until they are told another
     power: int
-    # whether mobiles may make emergency calls
+    # whether mobiles may make emergency calls, and which access classes are barred
     emergency: int
+    barred: tuple
 
 
 @dataclasses.dataclass
@@ -87,6 +89,8 @@ class Config:
     gateway: Gateway
     timers: dict
     awaited: int
+    # how many free channels of each cell emergency calls alone may take
+    emergency_reserve: int
     pagings: int
     cells: list
 
@@ -122,6 +126,13 @@ def network_of(table):
     return plmn_of(mcc, mnc) if mcc and mnc else b"", band
 
 
+def classes_in(found):
+    """The access classes of a list."""
+    if not isinstance(found, list) or not all(type(it) is int and it in CLASSES for it in found):
+        raise ValueError
+    return tuple(found)
+
+
 def broadcast_of(table, band):
     """What all cells broadcast. CCCH_CONF 0: timeslot 0 has common channels alone; 1: four signalling channels too."""
     found = Broadcast(
@@ -133,6 +144,7 @@ def broadcast_of(table, band):
         table.whole("t3212", 0, 255, 5),
         table.whole("power", 0, 31, LOUDEST.get(band)),
         table.choice("emergency", (0, 1), 0),
+        table.take("barred_classes", (), "a list of access classes, 0 to 9 and 11 to 15, is allowed", classes_in),
     )
     if found.common == 1 and found.blocks is not None and found.blocks > 2:
         # TS 44.018, table 10.5.2.11.1: a combined channel has three blocks
@@ -240,6 +252,7 @@ def read(path):
         gateway_of(top.table("gateway")),
         {timer: timers.seconds(timer, seconds) for timer, seconds in (OF_STATIONS | OF_NETWORK).items()},
         top.whole("awaited", 1, 1024, 4),
+        top.whole("emergency_reserve", 0, 32, 0),
         top.whole("pagings", 1, 100, 4),
         cells,
     )

@@ -1,6 +1,7 @@
 """System information (TS 44.018, 9.1.31 to 9.1.40): what a cell's mobiles are told on its broadcast channel, by BCCH
 INFORMATION, and on the slow channel of each call, by SACCH FILLING (TS 48.058, 8.5.1 and 8.6.2)."""
 
+from barring import EMERGENCY
 from rsl import CHANNEL_NUMBER, COMMON, LAYER_3, TRX
 
 # On Abis: types, elements, and the channel number of the broadcast channel.
@@ -8,6 +9,8 @@ BROADCAST, FILLING, KIND, FULL, BCCH = 0x11, 0x1A, 0x1E, 0x27, 0x80
 # On the air: types, behind the discriminator 06.
 TYPES = {1: 0x19, 2: 0x1A, 3: 0x1B, 4: 0x1C, 5: 0x1D, 6: 0x1E}
 FILL, FRAME = b"\x2b", 23
+# Those from this one on go on the slow channels.
+FIRST_SLOW = 5
 # All networks' colours are permitted (10.5.2.27).
 ALL_COLOURS = b"\xff"
 # Cell options (10.5.2.3): no power control, mobiles don't stop sending in silence, radio link timeout of 32 frames.
@@ -15,9 +18,9 @@ OPTIONS = b"\x27"
 # Cell selection (10.5.2.4): a hysteresis of 4 dB, in steps of 2 dB, in front of the largest power; no more is asked of a
 # mobile's receiving.
 HYSTERESIS, NECI_BIT = 2 << 5, 0x40
-# Random access (10.5.2.29): 7 repetitions, spread over 12 slots, the cell isn't barred, calls aren't re-established; and in the
-# two octets behind that the bit which bars emergency calls.
-RANDOM_ACCESS, NO_EMERGENCY = 0xE5, 0x0400
+# Random access (10.5.2.29): 7 repetitions, spread over 12 slots, the cell isn't barred, calls aren't re-established. Two octets
+# with a bit for each class that is barred stand behind that.
+RANDOM_ACCESS = 0xE5
 
 
 class DoesNotFit(Exception):
@@ -53,6 +56,8 @@ class Information:
 
     def __init__(self, plmn, broadcast):
         self.plmn, self.broadcast = plmn, broadcast
+        # the access classes that are barred, and emergency calls under their bit (barring.py)
+        self.barred = frozenset(broadcast.barred) | (frozenset() if broadcast.emergency else {EMERGENCY})
 
     def common_channels(self):
         """Control Channel Description (10.5.2.11): a centre of release 99, IMSI attach and detach."""
@@ -65,7 +70,7 @@ class Information:
 
     def access(self):
         """RACH Control Parameters (10.5.2.29)."""
-        return bytes([RANDOM_ACCESS]) + (0 if self.broadcast.emergency else NO_EMERGENCY).to_bytes(2, "big")
+        return bytes([RANDOM_ACCESS]) + sum(1 << it for it in self.barred).to_bytes(2, "big")
 
     def place(self, cell):
         """The location area identification of a cell (10.5.1.3)."""
@@ -84,17 +89,29 @@ class Information:
 
     def messages(self, cell, trx):
         """What a TRX is sent: the first has the broadcast channel, and each the slow channels of its calls."""
-        for number, body in self.bodies(cell):
-            # the pseudo length (10.5.2.19) counts what stands behind it up to the rest octets
-            octets = bytes([0x06, TYPES[number]]) + body
-            octets = bytes([len(octets) << 2 | 1]) + octets
-            if number >= 5:
-                # the rest of type 6 has an octet, that of type 5 none
-                octets += FILL * (number - 5)
-                head = bytes([TRX, FILLING, KIND, number, LAYER_3])
-                yield head + len(octets).to_bytes(2, "big") + octets
-            elif trx == 0:
+        if trx == 0:
+            yield from self.broadcast_messages(cell)
+        yield from self.slow_messages(cell)
+
+    def broadcast_messages(self, cell):
+        """What is told on the broadcast channel, which has all that is barred."""
+        for number, octets in self.octets(cell):
+            if number < FIRST_SLOW:
                 yield bytes([COMMON, BROADCAST, CHANNEL_NUMBER, BCCH, KIND, number, FULL, FRAME]) + octets.ljust(FRAME, FILL)
+
+    def slow_messages(self, cell):
+        """What is told on the slow channels."""
+        for number, octets in self.octets(cell):
+            if number >= FIRST_SLOW:
+                # the rest of type 6 has an octet, that of type 5 none
+                octets += FILL * (number - FIRST_SLOW)
+                yield bytes([TRX, FILLING, KIND, number, LAYER_3]) + len(octets).to_bytes(2, "big") + octets
+
+    def octets(self, cell):
+        """Each type with its octets up to the rest, in front of which the pseudo length (10.5.2.19) counts them."""
+        for number, body in self.bodies(cell):
+            octets = bytes([0x06, TYPES[number]]) + body
+            yield number, bytes([len(octets) << 2 | 1]) + octets
 
 
 def faults(cells, band):

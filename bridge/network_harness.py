@@ -49,6 +49,7 @@ CONFIG = """
 controller = {controller}
 site = "site.toml"
 awaited = {awaited}
+emergency_reserve = {emergency_reserve}
 pagings = {pagings}
 [network]
 mcc = "001"
@@ -84,7 +85,7 @@ OF_MOBILES, OF_CENTRE = ("t3101", "t3109", "t3113", "t10", "establish"), ("conne
 OF_GATEWAY = ("gateway", "gateway-repeat", "gateway-audit")
 # What is asked for of CONFIG beside timers, and what it is where that isn't asked for; `broadcast` are more lines of that table,
 # and `more` are other tables.
-KEYS = {"neci": 1, "awaited": 4, "pagings": 4, "band": 900, "transport": "ipa", "broadcast": "", "more": ""}
+KEYS = {"neci": 1, "awaited": 4, "emergency_reserve": 0, "pagings": 4, "band": 900, "transport": "ipa", "broadcast": "", "more": ""}
 # An operator's line of which nothing comes, but that it is printed: the site has no such cell.
 NOTHING = "handover 65535 63"
 # What a mobile says first, and what the centre answers, as in a location update of osmo-bsc and osmo-msc.

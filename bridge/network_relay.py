@@ -3,6 +3,7 @@ import collections
 import re
 
 import access
+import barring
 import figures
 import ipacc
 import link_layer
@@ -11,6 +12,7 @@ from a_side import ASide
 from air import Air
 from arrivals import Arrivals
 from assignment import Assignments
+from barring import BAR, UNBAR, Barring
 from ciphering import Ciphering
 from information import Information
 from link_layer import SHORT_LINK
@@ -54,6 +56,7 @@ class NetworkRelay(Relay):
         self.config, self.plmn = config, config.plmn
         self.talks = Talks(self.calls)
         self.information = Information(config.plmn, config.broadcast)
+        self.barring = Barring(self.information, self.broadcast)
         self.a_side = ASide(self, times, seconds)
         self.air = Air(self, times, seconds, config)
         self.paging = Paging(self, times, seconds, config)
@@ -88,7 +91,10 @@ class NetworkRelay(Relay):
         if isinstance(giver, Operator) and giver.is_served:
             words = line.split()
             if words == NETWORK:
-                giver.tell(*self.again.known(), self.known(), self.media.known())
+                giver.tell(*self.again.known(), self.known(), self.access_known(), self.media.known())
+                return
+            if words and words[0] in (BAR, UNBAR):
+                self.barring.take(giver, line)
                 return
             if len(words) > 1 and words[0] in NAMING and (number := NUMBER.fullmatch(words[1])):
                 self.talks.reserved.add(int(number[1]))
@@ -106,9 +112,16 @@ class NetworkRelay(Relay):
             f" {self.paging.known()}; passed over: {sum(self.passed.values())}"
         )
 
+    def access_known(self):
+        """What is known of who may ask for a channel, in one line."""
+        admission = self.air.admission
+        waiting = sum(admission.waiting(it.number) for it in self.config.cells)
+        kept = f"kept for emergency calls in each cell: {admission.reserve}"
+        return f"access: {self.barring.known()}; {kept}; requests that wait: {waiting}"
+
     def help(self):
         """The lines that operators may give."""
-        return [*HELP[:-1], HELP_OF_NETWORK, HELP[-1]]
+        return [*HELP[:-1], HELP_OF_NETWORK, *barring.HELP, HELP[-1]]
 
     def of_mobile(self, number):
         """Whose a call is, as the centre named him, and how far away he asked, in words."""
@@ -234,9 +247,16 @@ class NetworkRelay(Relay):
         for message in self.information.messages(self.config.cells[station.cell], station.trx):
             self.pass_on(station, message)
 
+    def broadcast(self):
+        """All stations are told anew what they broadcast."""
+        for station in self.stations.values():
+            if station.trx == 0:
+                for message in self.information.broadcast_messages(self.config.cells[station.cell]):
+                    self.pass_on(station, message)
+
     def figures(self):
         """The figures of all that is known (figures.py)."""
-        return [*super().figures(), *figures.of_network(self)]
+        return [*super().figures(), *figures.of_network(self), self.barring.figures()]
 
     def tell_all(self):
         """Says what is known of each station and of the centre."""

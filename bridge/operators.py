@@ -18,7 +18,7 @@ QUIET = 0.5
 MOST_AT_ONCE = 16
 # Lines that the controller isn't asked: views, of which each may have thousands of lines, and others.
 VIEWS = (b"help", b"stations", b"calls", b"network")
-OWN = (*VIEWS, b"upgrade", b"reopen", b"watch", *SIMULATED)
+OWN = (*VIEWS, b"upgrade", b"reopen", b"watch", b"bar", b"unbar", *SIMULATED)
 # How many lines of an input may come before it is known of which call it is.
 MOST_LINES = 100
 # How many digits the number of a call may have.

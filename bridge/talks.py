@@ -1,4 +1,5 @@
 """What mobiles and the centre say to one another: of each call what the radio book doesn't know."""
+from access import Cause
 from outgoing import Outgoing
 from short_messages import ShortLink
 
@@ -71,9 +72,10 @@ class Talks:
         if self.by_number.get(talk.number) is talk:
             del self.by_number[talk.number]
 
-    def awaited(self, cell):
-        """How many calls of a cell haven't heard of their mobile yet."""
-        return sum(talk.is_awaited and talk.station.cell == cell for talk in self.by_number.values())
+    def awaited(self, cell, is_emergency=False):
+        """How many calls of a cell haven't heard of their mobile yet; emergency calls alone, where those are asked for."""
+        awaited = [it for it in self.by_number.values() if it.is_awaited and it.station.cell == cell]
+        return sum(it.request.cause == Cause.EMERGENCY for it in awaited) if is_emergency else len(awaited)
 
     def place(self, talk):
         """What the book has of a call: its channel, and its attempt at handover; None where it has nothing."""
