@@ -14,6 +14,7 @@ import rsl
 from calls import OFF, ON, PENDING, Event
 from journal import Journal, JournalError
 from tell import Level, Since, say, shown
+from trial import Trial
 from watch import Watch
 
 # In how many seconds a controller may end so often, and how long it may take to go on over its journal, or to end for another.
@@ -66,7 +67,11 @@ class Again:
         self.begun_at, self.begun, self.vain = 0.0, 0, 0
         # how many lines it has printed before it goes on; None where it needn't
         self.early = None
+        # a program that is tried beside it, one that is to take its place, and one that has done so in vain, with the reason
+        self.trial: Trial | None = None
+        self.trying: Upgrade | None = None
         self.upgrading: Upgrade | None = None
+        self.vain_upgrade: tuple[Upgrade, str] | None = None
         # whether the book is one that the bridge hasn't seen yet; and whether a controller has gone on over its journal
         self.is_new, self.has_gone_on = True, False
         # whether the bridge ends since none can go on
@@ -159,6 +164,7 @@ class Again:
         if self.upgrading:
             self.upgrading.tell(f"{self.upgrading.program}: goes on behind line {relay.line}")
             self.upgrading.line = relay.line
+        self.tell_vain_upgrade("the old one goes on")
         if relay.log:
             relay.log.note("another controller goes on here, which gathers measurements anew")
         relay.is_away = False
@@ -276,6 +282,7 @@ class Again:
     def fail(self, why):
         """No controller can go on: the bridge ends, and not well."""
         self.has_failed = True
+        self.tell_vain_upgrade(f"the old one doesn't go on: {why}")
         if self.bridge.is_ending:
             say(why, Level.ERROR)
         self.end(why)
@@ -298,23 +305,58 @@ class Again:
 
     def is_awaited(self, operator):
         """Whether an operator is yet to be told what came of another program."""
-        return self.upgrading is not None and self.upgrading.line is None and self.upgrading.operator is operator
+        upgrading = self.upgrading if self.upgrading and self.upgrading.line is None else None
+        vain = self.vain_upgrade[0] if self.vain_upgrade else None
+        return any(it and it.operator is operator for it in (self.trying, upgrading, vain))
 
     def upgrade(self, operator, program):
-        """The controller ends behind the lines that it has, and a program is started in its place."""
+        """A program is tried beside the controller; where it would go on with its calls it is to take its place."""
+        it = Upgrade(operator, program, self.command)
         if why := self.objection(program):
             operator.tell(f"refused: upgrade {program}: {why}")
             return
-        self.upgrading = Upgrade(operator, program, self.command)
+        try:
+            self.trial = Trial(self.bridge, it.new, self.journal, LONGEST, lambda *found: self.tried(it, *found))
+        except (OSError, JournalError) as error:
+            it.tell(f"refused: upgrade {program}: it can't be tried: {error}")
+            return
+        self.trying = it
+
+    def tried(self, it, problem, line):
+        """A program was tried: what is wrong with it, if anything is, and the line behind which it would go on. The controller may
+        be gone since."""
+        self.trial = self.trying = None
+        if why := problem or self.objection(it.program):
+            it.tell(f"refused: upgrade {it.program}: tried on a copy of the journal: {why}")
+            return
+        it.tell(f"{it.program}: tried on a copy of the journal: it would go on behind line {line}")
+        self.replace(it)
+
+    def replace(self, it):
+        """The controller ends behind the lines that it has, and a program is started in its place."""
+        self.tell_vain_upgrade(f"the old one doesn't go on: {it.program} takes its place")
+        self.upgrading = it
         if self.is_paused():
             # none is there that would have to end
             self.times.forget("again")
-            self.go_elsewhere(self.upgrading, "")
+            self.go_elsewhere(it, "")
             return
         self.relay.is_away = True
         self.times.set("resume", LONGEST, self.is_too_slow)
         self.watch.await_answer()
         self.relay.core.finish()
+
+    def tell_vain_upgrade(self, what):
+        """Where a program has taken the controller's place in vain: what becomes of the old one, now that this is so."""
+        if self.vain_upgrade:
+            (it, why), self.vain_upgrade = self.vain_upgrade, None
+            it.tell(f"refused: upgrade {it.program}: {why}, and {what}")
+
+    def leave(self):
+        """The bridge ends: what is tried does, too."""
+        if self.trial:
+            self.trial.leave()
+        self.trial = self.trying = None
 
     def objection(self, program):
         """Why a program can't be started in the controller's place; None where that can be tried."""
@@ -322,12 +364,15 @@ class Again:
             return "no program that can be run"
         if not self.journal:
             return "the controller has no journal"
+        if self.trial:
+            return "another program is being tried"
         if not self.is_paused() and (self.relay.is_away or self.relay.core is None or self.relay.core.is_last):
             return "the controller isn't there just now"
         return None
 
     def go_elsewhere(self, it, why):
-        """The controller has ended for another, which is started; or that one has, and why: then the old one is, again."""
+        """The controller has ended for another, which is started; or that one has, and why: then the old one is, again. What came of
+        it is told once that goes on."""
         if not it.is_tried:
             it.is_tried, self.command = True, it.new
             try:
@@ -335,8 +380,8 @@ class Again:
                 return
             except OSError as error:
                 why = str(error)
-        self.upgrading, self.command = None, it.old
-        it.tell(f"refused: upgrade {it.program}: {why}, and the old one goes on")
+        self.upgrading, self.command, self.vain_upgrade = None, it.old, (it, why)
+        say(f"{it.program}: {why}, and the old one is started again", Level.WARNING)
         self.try_to_start()
 
     # A book of before

@@ -11,7 +11,7 @@ import time
 
 import faults
 from again import Again
-from child import begin
+from child import begin, kill_all
 from figures import FiguresFile
 from links import Links
 from log import Log
@@ -218,11 +218,8 @@ class Bridge:
         self.kill_core()
 
     def kill_core(self):
-        """Kills the controller, and what it has begun; not one that is gone, whose number may be another's."""
-        if self.core.returncode is not None:
-            return
-        with contextlib.suppress(ProcessLookupError):
-            os.killpg(self.core.pid, signal.SIGKILL)
+        """Kills the controller, and what it has begun."""
+        kill_all(self.core)
 
     def status_of_core(self):
         """The status of a controller that prints nothing more. It may have closed its output, and go on: signals count still."""
@@ -281,6 +278,7 @@ class Bridge:
             except Exception as error:
                 self.end_faulty(error)
         self.relay.endings.finish()
+        self.again.leave()
         for link in list(self.links.all):
             link.close()
         status = self.status_of_core()

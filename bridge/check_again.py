@@ -44,6 +44,12 @@ def controller(room, program, name="controller", first="", around=CONTROLLER):
     return program_that(room, name, f'#!/bin/sh\n{first}\nexec "{around}" "{program}" "$@"\n')
 
 
+def good_on_a_copy(room, program, name, lines):
+    """A program that goes on over a copy of the journal, as where it is tried, and else does what lines of the shell say."""
+    tried = f'case "$*" in *gofnild-trial-*) exec "{CONTROLLER}" "{program}" "$@";; esac'
+    return program_that(room, name, f"#!/bin/sh\n{tried}\n{lines}\n")
+
+
 def journaled(start, room, program, *options, again=OFTEN, first="", **others):
     """A bridge whose controller has a journal."""
     core = (controller(room, program, first=first), "live", SITE, "--journal", "journal")
@@ -394,8 +400,8 @@ def received(room):
 
 
 def not_upgraded(start, room, program):
-    """A program that can't be run, or refuses the journal, doesn't take the controller's place; what is asked meanwhile is
-    answered by the old one."""
+    """A program that can't be run, or refuses the journal, is tried on a copy of that, and doesn't take the controller's place: the
+    controller doesn't end, and answers what is asked meanwhile. The journal is the one that it was."""
     bridge = journaled(start, room, program, "--control", "control", again=())
     bridge.station(FIRST)
     broken = program_that(room, "broken", "#!/nowhere\n")
@@ -403,13 +409,16 @@ def not_upgraded(start, room, program):
     operator = Asker(room / "control")
     operator.ask(f"upgrade {room / 'nothing'}\nupgrade\n")
     operator.expect(*["^refused: upgrade .*: no program that can be run$"] * 2)
-    for it, why in ((broken, ".*"), (refuses, "it ended with status 2")):
-        operator.ask(f"upgrade {it}\nopen 1 0 0 3\n")
-        operator.expect(f"^refused: upgrade {it}: {why}, and the old one goes on$", "^event open 1 0/0/3 -> done$")
-        operator.ask("clear 1\n")
-        operator.expect("^event clear 1 -> done$")
+    process = child(bridge)
+    tried = "tried on a copy of the journal: it ended with status 2: journal: version 2, not 1"
+    for it, why in ((broken, "it can't be tried: .*"), (refuses, tried)):
+        operator.ask(f"upgrade {it}\n")
+        operator.expect(f"^refused: upgrade {it}: {why}$")
+        operator.ask("open 1 0 0 3\nclear 1\n")
+        operator.expect("^event open 1 0/0/3 -> done$", "^event clear 1 -> done$")
         bridge.expect("^event released 0/0/3 -> done$")
-    bridge.said.expect("controller: journal: version 2, not 1$")
+    must(child(bridge) == process, "the controller has ended")
+    must(sorted(it.name for it in (room / "journal").iterdir()) == [f"{0:020}.journal", "lines"], "the journal has more files")
     operator.leave()
     bridge.process.terminate()
     bridge.wait(0)
@@ -423,8 +432,11 @@ def upgraded(start, room, program):
     bridge.expect("record 0/0/3 on$")
     other = controller(room, program, "other", "touch other_runs")
     operator = Asker(room / "control")
-    operator.ask(f"upgrade {other}\nclear 2\n")
-    operator.expect("^.*other: goes on behind line [0-9]+$", "^in clear 2$")
+    operator.ask(f"upgrade {other}\n")
+    operator.expect("^.*other: tried on a copy of the journal: it would go on behind line [0-9]+$")
+    operator.expect("^.*other: goes on behind line [0-9]+$")
+    operator.ask("clear 2\n")
+    operator.expect("^in clear 2$")
     operator.leave()
     must((room / "other_runs").exists(), "the other one doesn't run")
     os.killpg(child(bridge), signal.SIGKILL)
@@ -452,7 +464,12 @@ def upgraded_while_it_hangs(start, room, program):
         bridge.said.expect(f"the controller isn't ready in {SLOW} seconds, and is killed$")
     operator.expect("^.*other: goes on behind line [0-9]+$")
     hangs = program_that(room, "hangs", "#!/bin/sh\nexec sleep 1000\n")
-    operator.ask(f"upgrade {hangs}\nclear 1\n")
+    operator.ask(f"upgrade {hangs}\n")
+    operator.expect(f"^refused: upgrade .*hangs: tried on a copy of the journal: it isn't done in {SLOW} seconds, and is killed$")
+    hangs = good_on_a_copy(room, program, "hangs", "exec sleep 1000")
+    operator.ask(f"upgrade {hangs}\n")
+    operator.expect("^.*hangs: tried on a copy of the journal: it would go on behind line [0-9]+$")
+    operator.ask("clear 1\n")
     operator.expect("^refused: upgrade .*hangs: it ended with status -9, and the old one goes on$", "^event clear 1 -> done$")
     operator.leave()
     bridge.expect("^event released 0/0/3 -> done$")

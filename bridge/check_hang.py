@@ -5,7 +5,7 @@ import signal
 import time
 
 import rsl
-from check_again import bridge_with, catch_up, controller, journaled, plan, program_that, remove, settle
+from check_again import bridge_with, catch_up, controller, good_on_a_copy, journaled, plan, program_that, remove, settle
 from harness import FIRST, LIMIT, SITE, SLOW, Asker, LeftOut, child, is_kind, must
 from watch import processes
 
@@ -107,15 +107,22 @@ def ended_in_a_pause(start, room, program):
 
 
 def upgraded_in_a_pause(start, room, program):
-    """An operator's program takes a controller's place that waits to be started again, at once. Where that one dies as well before
-    it goes on, the old one is tried again."""
+    """An operator's program takes a controller's place that waits to be started again, at once. One that dies on a copy of the
+    journal doesn't. Where one dies before it goes on, the old one is tried again: that it goes on isn't said before it does."""
     bridge = paused(start, room, program, "--control", "control")
     operator = Asker(room / "control")
     operator.ask(f"upgrade {room / 'controller'}\n")
-    operator.expect("^refused: upgrade .*controller: it ended with status 3, and the old one goes on$")
+    operator.expect("^refused: upgrade .*controller: tried on a copy of the journal: it ended with status 3$")
+    operator.ask(f"upgrade {good_on_a_copy(room, program, 'dies', 'exit 5')}\n")
+    operator.expect("^.*dies: tried on a copy of the journal: it would go on behind line [0-9]+$")
+    bridge.said.expect("warning: .*dies: it ended with status 5, and the old one is started again$")
     bridge.said.expect(f"{AGAIN} in 1000 seconds$")
-    operator.ask(f"upgrade {controller(room, program, 'other')}\nclear 1\n")
-    operator.expect("^.*other: goes on behind line [0-9]+$", "^event clear 1 -> done$")
+    must(not any("goes on" in line for line in operator.lines.lines), "the old one goes on, it is said")
+    operator.ask(f"upgrade {controller(room, program, 'other')}\n")
+    operator.expect("^refused: upgrade .*dies: it ended with status 5, and the old one doesn't go on: .*other takes its place$")
+    operator.expect("^.*other: goes on behind line [0-9]+$")
+    operator.ask("clear 1\n")
+    operator.expect("^event clear 1 -> done$")
     operator.leave()
     bridge.process.terminate()
     bridge.wait(0)
@@ -210,7 +217,7 @@ def of_another_kind(start, room, program):
     operator = Asker(room / "control")
     others = {"once": "echo out abis 0 0 082e010b; exit 4", "often": "exec yes out abis 0 0 082e010b"}
     for name, line in others.items():
-        other = program_that(room, name, f"#!/bin/sh\n{line}\n")
+        other = good_on_a_copy(room, program, name, line)
         operator.ask(f"upgrade {other}\n")
         operator.expect(f"^refused: upgrade .*{name}: it ended with status (4|-9|-13), and the old one goes on$")
         bridge.said.expect("before it goes on the controller prints: out abis 0 0 082e010b$")
@@ -225,12 +232,15 @@ def of_another_kind(start, room, program):
 
 def upgraded_in_vain(start, room, program):
     """A program that goes on and then ends before it has done a line, or says that it goes on behind another line than the
-    journal's last, takes the controller's place in vain: the old one goes on, and the call."""
+    journal's last, takes the controller's place in vain: the old one goes on, and the call. One that says so of a copy of the
+    journal isn't given that place."""
     bridge = journaled(start, room, program, "--control", "control", again=())
     station = open_one(bridge)
     operator = Asker(room / "control")
-    dies = program_that(room, "dies", f'#!/bin/sh\necho "resumed after line {last_line(bridge)}: it" >&2\nread line\nexit 5\n')
-    lies = program_that(room, "lies", '#!/bin/sh\necho "resumed after line 99: it" >&2\nread line\n')
+    resumed = f'echo "resumed after line {last_line(bridge)}: it" >&2\nread line\nexit 5'
+    dies = good_on_a_copy(room, program, "dies", resumed)
+    wrong = 'echo "resumed after line 99: it" >&2\nread line\nexit 0'
+    lies, liar = good_on_a_copy(room, program, "lies", wrong), program_that(room, "liar", f"#!/bin/sh\n{wrong}\n")
     operator.ask(f"upgrade {dies}\n")
     operator.expect("^.*dies: goes on behind line [0-9]+$")
     operator.ask("handover 1 63\n")
@@ -238,6 +248,8 @@ def upgraded_in_vain(start, room, program):
     operator.ask(f"upgrade {lies}\n")
     operator.expect("^refused: upgrade .*lies: it ended with status (-9|0), and the old one goes on$")
     catch_up(bridge)
+    operator.ask(f"upgrade {liar}\n")
+    operator.expect("^refused: upgrade .*liar: tried on a copy of the journal: it goes on behind line 99, but the journal has line ")
     operator.leave()
     must(station.is_there, "its station is gone")
     clear_it(bridge)

@@ -4,12 +4,10 @@ import pathlib
 import random
 import signal
 import socket
-import subprocess
-import time
 
 import ipa
 from centre import RESET, RESET_ACKNOWLEDGE, TestCentre
-from harness import FOLDER, LIMIT, SLOW, must
+from harness import SLOW, must
 from network_harness import (
     ACCEPT,
     CLEAR,
@@ -684,53 +682,6 @@ def killed(start, _room, _program):
     run.wait(1)
 
 
-def bad_config(start, room, _program):
-    """What is wrong with CONFIG or its site is told, each fault with its key, what is allowed, and what was found; status
-    2."""
-    start().stop()
-    text, site = (room / "config.toml").read_text(), (room / "site.toml").read_text()
-    cases = [
-        (('mcc = "001"', "mcc = 1"), "network.mcc: a country code of three digits, in quotes, is allowed, not 1"),
-        (("band = 900", "band = 850"), "network.band: one of 900, 1800 is allowed, not 850"),
-        (("neci = 1", "neci = 2"), "broadcast.neci: one of 0, 1 is allowed, not 2"),
-        (("neci = 1", "bs_ag_blks_res = 3\nccch_conf = 1"), "bs_ag_blks_res: 0 to 2 is allowed where ccch_conf is 1, not 3"),
-        (("cell = 1", 'cell = 1\naddresses = ["here"]'), 'station 1.addresses: a list of addresses as ["192.0.2.7"] is allowed'),
-        (("cell = 1", "cell = 2"), "station 1.cell: a cell of the site, 0 to 1, is allowed, not 2"),
-        (("6970/0/0", "6969/0/0"), "station 1.unit: each unit stands once, not 6969/0/0"),
-        (('own = "0.42.1"', ""), "centre.own: a point code as 0.42.1 is allowed, not left out"),
-        (("retry = 0.2", "retry = 0"), "timers.retry: a number of seconds over 0 and under a million is allowed, not 0"),
-        (('name = "as-bsc1"', 'address = "x"'), 'centre.address: an address as 192.0.2.7, in quotes, is allowed, not "x"'),
-        (("[gateway]", '[gateway]\naddress = "gw"'), 'gateway.address: an address as 192.0.2.7, in quotes, is allowed, not "gw"'),
-        (("[gateway]\nport", "[gateway]\nport = 0\nports"), "gateway.port: a whole number from 1 to 65535 is allowed, not 0"),
-        (("[gateway]", '[gateway]\ndomain = "a b"'), "gateway.domain: a name of 1 to 64 letters, digits, full stops and hyphens"),
-        (("[gateway]\nport", "[gateway]\nhost"), "gateway.host: no such key is known"),
-        (("gateway-repeat = 120", "gateway-repeat = 0"), "timers.gateway-repeat: a number of seconds over 0 and under a million"),
-        (("retry = 0.2", "t9 = 1"), "timers.t9: no such key is known, not 1"),
-        (("emergency_reserve = 0", "emergency_reserve = -1"), "emergency_reserve: a whole number from 0 to 32 is allowed, not -1"),
-        (("neci = 1", "barred_classes = [10]"), "broadcast.barred_classes: a list of access classes, 0 to 9 and 11 to 15, is allowed"),
-        (("awaited = 4", "awaited = true"), "awaited: a whole number from 1 to 1024 is allowed, not True"),
-        (('site = "site.toml"', 'site = "none.toml"'), 'site: the path of a site, which is a file, is allowed, not "none.toml"'),
-        (('mcc = "001"', 'mcc = "\u0661\u0662\u0663"'), "network.mcc: a country code of three digits, in quotes, is allowed"),
-        (('"live"]', '"\\u0000"]'), "controller: the command of a controller without its site"),
-        (("[network]", "[network"), "is no TOML:"),
-    ]
-    for (old, new), fault in cases:
-        told(room, text.replace(old, new), site, fault)
-    told(room, text, site.replace("ba = [70]", "ba = [70, 871]"), "cell 0.ba: a list of whole numbers from 1 to 124 is allowed")
-    wide = site.replace("60", "512").replace("70", "700")
-    told(room, text.replace("900", "1800"), wide, "cell 0.trx 0.arfcn", is_there=False)
-
-
-def told(room, text, site, fault, is_there=True):
-    """Whether a fault of CONFIG or its site is told."""
-    (room / "config.toml").write_text(text)
-    (room / "site.toml").write_text(site)
-    words = [FOLDER / "network", room / "config.toml", "--check"]
-    ran = subprocess.run([str(it) for it in words], capture_output=True, text=True, timeout=LIMIT)
-    must((fault in ran.stderr) == is_there, f"{fault!r}: {ran.stderr}")
-    must(ran.returncode == 2 or not is_there, f"the status is {ran.returncode}")
-
-
 CHECKS = [
     a_registration,
     system_information,
@@ -759,5 +710,4 @@ CHECKS = [
     flood,
     random_octets,
     killed,
-    bad_config,
 ]

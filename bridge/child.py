@@ -35,6 +35,13 @@ def begin(command):
     return process, writes, reads, errors
 
 
+def kill_all(process):
+    """Kills a process that was begun so, and what it has begun; not one that is gone, whose number may be another's."""
+    if process.returncode is None:
+        with contextlib.suppress(ProcessLookupError):
+            os.killpg(process.pid, signal.SIGKILL)
+
+
 def pipe(opened):
     """A pipe, whose ends are closed where what is opened is."""
     ends = os.pipe()

@@ -5,6 +5,7 @@ import os
 import pathlib
 import tomllib
 
+import site_rest
 from barring import CLASSES
 from stations import Station
 from timers import OF_NETWORK, OF_STATIONS
@@ -214,32 +215,37 @@ def stations_of(tables, cells, faults):
     return stations
 
 
-def cells_of(site, band):
-    """The cells of a site, of which only what is broadcast is looked at: the controller reads all of it."""
+def cells_of(site, band, rest):
+    """The cells of a site, of which only what is broadcast is looked at: the controller reads all of it. Faults of the other keys go
+    to `rest`."""
     low, high = BANDS.get(band, (0, 1023))
     cells = []
     for number, table in enumerate(site.tables("cell")):
         lac, ci = table.whole("lac", 0, 65535), table.whole("ci", 0, 65535)
         bcch, ncc, bcc = table.whole("bcch", low, high), table.whole("ncc", 0, 7), table.whole("bcc", 0, 7)
         neighbours = table.whole_list("ba", low, high)
-        carriers = [it.whole("arfcn", low, high) for it in table.tables("trx")]
+        tables = table.tables("trx")
+        carriers = [it.whole("arfcn", low, high) for it in tables]
+        site_rest.look_at_cell(table, tables, rest)
         if None not in (lac, ci, bcch, ncc, bcc, neighbours, *carriers):
             cells.append(Cell(number, lac, ci, bcch, ncc << 3 | bcc, neighbours, carriers))
+    site_rest.look_at(site, rest)
     return cells
 
 
-def read(path):
-    """What CONFIG says; raises ConfigError with a line for each fault."""
+def read(path, is_whole=False):
+    """What CONFIG says; raises ConfigError with a line for each fault, also for those keys of the site that only the controller
+    reads, where `is_whole` asks for that."""
     path, faults = pathlib.Path(path), Faults()
     top = Table(read_toml(path), "", faults)
     plmn, band = network_of(top.table("network"))
     controller = top.texts("controller", 'the command of a controller without its site, as ["./lab", "live"],')
     name = top.text("site", r"[^\0]+", "the path of a site")
-    site, site_faults, cells = path.parent / (name or ""), Faults(), []
+    site, site_faults, rest, cells = path.parent / (name or ""), Faults(), Faults(), []
     if name and not os.path.isfile(site):
         faults.add("site", "the path of a site, which is a file, is allowed", shown(name))
     elif name:
-        cells = cells_of(Table(read_toml(site), "", site_faults), band)
+        cells = cells_of(Table(read_toml(site), "", site_faults), band, rest)
     abis, timers = top.table("abis"), top.table("timers")
     found = Config(
         [*(controller or ()), str(site)],
@@ -258,6 +264,7 @@ def read(path):
     )
     for table in (abis, timers, top):
         table.end()
-    if lines := [f"{path}: {it}" for it in faults.lines] + [f"{site}: {it}" for it in site_faults.lines]:
+    of_site = site_faults.lines + (rest.lines if is_whole else [])
+    if lines := [f"{path}: {it}" for it in faults.lines] + [f"{site}: {it}" for it in of_site]:
         raise ConfigError("\n".join(lines))
     return found

@@ -3,11 +3,15 @@ noted before anything of that left. The controller has looked whether it is whol
 import itertools
 import pathlib
 import re
+import zlib
 
 # The first line of a file. That of a record: its number and how many octets its body has, of twenty digits each, and two
 # checksums; where both stand, and how long it is.
 FIRST_LINE = b"gofnild journal 1\n"
 RECORD, NUMBER, SIZE, HEAD = b"record ", slice(7, 27), slice(28, 48), 67
+# The whole of it, with the checksum of the body, and of the 58 octets in front of its own; and the first line of the first body.
+WHOLE_HEAD, SUMMED = re.compile(rb"record (\d{20}) (\d{20}) ([0-9a-f]{8}) ([0-9a-f]{8})\n"), 58
+SITE = re.compile(rb"site (\d+)\n")
 # Files of a journal, by the number of the line behind which each begins.
 NAME = re.compile(r"(\d{20})\.journal")
 # The options of a controller that have a value behind them.
@@ -72,8 +76,47 @@ class Journal:
                 if record > max(number, begin):
                     yield record, body.split(b"\n")[:-1]
 
+    def last(self):
+        """The number of the last whole record of the last file, and the checksum of the site in its head; None where there is no
+        file. Raises JournalError where a controller would refuse the file: what ends it may be half a record, or be followed by
+        zeros."""
+        if not (files := self.files()):
+            return None
+        begin, path = files[-1]
+        octets = path.read_bytes()
+        if not octets.startswith(FIRST_LINE):
+            raise JournalError(f"{path}: begins otherwise than a journal of version 1")
+        records = whole_records(path, octets)
+        number, head = next(records, (None, b""))
+        site = SITE.match(head)
+        if number != begin or site is None:
+            raise JournalError(f"{path}: there is no whole head")
+        for number, _ in records:
+            begin += 1
+            if number != begin:
+                raise JournalError(f"{path}: record {begin} is missing, {number} stands there")
+        return begin, int(site[1])
+
     def book(self, last):
         """The lines that lead from the empty book to that behind the last line."""
         for _, path in self.files()[-1:]:
             for _, body in self.records(path, last):
                 yield from body.split(b"\n")[:-1]
+
+
+def whole_records(path, octets):
+    """The records of a file: of each its number and its body. Raises JournalError at one that is damaged."""
+    at, end = len(FIRST_LINE), len(octets.rstrip(b"\0"))
+    while at < end:
+        begin = behind = at + HEAD
+        head = WHOLE_HEAD.match(octets, at)
+        if head and int(head[4], 16) == zlib.crc32(octets[at : at + SUMMED]):
+            behind = begin + int(head[2])
+            if behind <= len(octets) and int(head[3], 16) == zlib.crc32(octets[begin:behind]):
+                yield int(head[1]), octets[begin:behind]
+                at = behind
+                continue
+        if end < behind:
+            # it is cut off
+            return
+        raise JournalError(f"{path}: a record is damaged, at octet {at}")

@@ -28,7 +28,7 @@ stations: the stations: since when each is there, its channels, its messages
 calls: the channels in use: of which call and since when, how stations have them, if that agrees, the last report; lost calls
 watch: from here on all that the controller prints; watch CALL: what comes of this call; watch off: no more of that
 summary: what came so far, counted in all and for each cell: calls, attempts at handover and their ends, messages, faults
-upgrade PROGRAM: the controller ends, and PROGRAM goes on with its calls, if it takes the journal
+upgrade PROGRAM: the controller ends, and PROGRAM goes on with its calls, if it does so on a copy of the journal
 reopen: the log is opened anew, as after it was moved away
 help: this
 open CALL CELL TRX TN: a call begins on a channel, TN as 3, or 3/0 and 3/1 for halves of a timeslot

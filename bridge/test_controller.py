@@ -11,6 +11,7 @@ has noted the line, `computes` without end, or waits in a `disk` until somebody 
 what no controller does in front of it (`garbled`); or that it `ends` behind it as if nothing more was to come. What has
 happened is taken out of it. While there is FOLDER/hold it doesn't begin, or go on.
 """
+import contextlib
 import os
 import pathlib
 import re
@@ -20,6 +21,9 @@ import sys
 import threading
 import time
 import zlib
+
+sys.dont_write_bytecode = True
+from journal import Journal, JournalError
 
 # Stages at which it isn't killed.
 HANGING = ("stopped", "computes", "disk")
@@ -86,13 +90,19 @@ class Controller:
         is_resuming = bool(files)
         if not is_resuming:
             self.journal.write_bytes(b"gofnild journal 1\n" + record(0, [b"site 0\n"]))
-        known = self.lines.read_bytes().split(b"\n")[:-1] if self.lines.exists() else []
+        known = self.lines.read_bytes().split(b"\n")[:-1] if self.lines.exists() else list(self.noted())
         self.live.told = len(known)
         for line in known:
             self.live.answer(line)
         self.wait()
         if is_resuming:
             os.write(2, b"resumed after line %d: channels=? calls=?\n" % self.live.count)
+
+    def noted(self):
+        """The lines that the journal has whole, where it is a copy; what couldn't be read is told apart from nothing alone."""
+        with contextlib.suppress(JournalError):
+            for _, lines in Journal(self.folder).lines_behind(0, sys.maxsize):
+                yield lines[0][3:] if lines and lines[0].startswith(b"in ") else b"?"
 
     def wait(self):
         """Takes its time, where that is asked for."""
