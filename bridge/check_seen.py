@@ -107,6 +107,12 @@ def whose_it_is(start, _room, _program):
     say(station, RESULT + REPORT)
     heard = "station hears -80 dBm, quality 3; mobile hears -87 dBm, quality 5"
     ask_until(run, "calls", f"^channel 0/0/1: .*; {heard}$")
+    # the L1 information of a mobile that is farther away now (9.3.10): its power level 5, and a timing advance of 9
+    say(station, RESULT.replace("0b0012", "0a2809" + "0b0012") + REPORT)
+    ask_until(run, "calls", f"^channel 0/0/1: .*, timing advance 7 since .*; {heard}; timing advance 9$")
+    # one that no mobile has isn't told
+    say(station, RESULT.replace("0b0012", "0a28400b0012") + REPORT)
+    ask_until(run, "calls", f"^channel 0/0/1: .*; {heard}$")
     # COMMON ID (TS 48.008, 3.2.1.68)
     run.centre.data(connection, "000b2f08080910100000000010")
     ask_until(run, "calls", "^channel 0/0/1: on for call 1, IMSI 001010000000001, timing advance 7 since")

@@ -6,7 +6,9 @@ import dataclasses
 
 # Elements (TS 48.058, 9.3): result number, uplink measurements, BS power, L1 information, L3 information. What stands behind the
 # identifier of those without a length.
-UPLINK, L3, WITHOUT_LENGTH = 0x19, 0x0B, {0x1B: 1, 0x04: 1, 0x0A: 2}
+UPLINK, L1, L3, WITHOUT_LENGTH = 0x19, 0x0A, 0x0B, {0x1B: 1, 0x04: 1, 0x0A: 2}
+# The timing advance is the second octet of the L1 information (9.3.10), as osmo-bts writes it: a number of bit periods up to this one.
+FARTHEST = 63
 # MEASUREMENT REPORT (TS 44.018, 9.1.21), and how many octets its results have.
 REPORT, RESULTS = b"\x06\x15", 16
 # Of the results (behind the message's type, bits from 0 on) the bit that is set where they aren't valid, where the number of
@@ -30,25 +32,30 @@ class Heard:
 
 @dataclasses.dataclass(frozen=True)
 class Report:
-    """A report: how the station hears the mobile, and the mobile the station, where that is told; and the neighbours that the mobile
-    hears, each by its place in the list of carriers and its colours."""
+    """A report: how the station hears the mobile, and the mobile the station, where that is told; the neighbours that the mobile
+    hears, each by its place in the list of carriers and its colours; and the timing advance, where that is told."""
 
     up: Heard | None
     down: Heard | None
     neighbours: tuple
+    advance: int | None
 
     def __str__(self):
         up, down = self.up or "not told", self.down or "not told"
-        return f"station hears {up}; mobile hears {down}"
+        advance = "" if self.advance is None else f"; timing advance {self.advance}"
+        return f"station hears {up}; mobile hears {down}{advance}"
 
 
 def report_in(message):
     """The report of a MEASUREMENT RESULT; what is cut there isn't told."""
-    up, down, neighbours, at = None, None, (), 4
+    up, down, neighbours, advance, at = None, None, (), None, 4
     while at + 1 < len(message):
         identifier, at = message[at], at + 1
         if identifier in WITHOUT_LENGTH:
-            at += WITHOUT_LENGTH[identifier]
+            end = at + WITHOUT_LENGTH[identifier]
+            if identifier == L1 and end <= len(message) and message[end - 1] <= FARTHEST:
+                advance = message[end - 1]
+            at = end
             continue
         wide = 2 if identifier == L3 else 1
         begin = at + wide
@@ -58,7 +65,7 @@ def report_in(message):
             up = Heard(value[0] & 0x3F, value[2] >> 3 & 7)
         elif identifier == L3 and value[:2] == REPORT and len(value) >= 2 + RESULTS:
             down, neighbours = results_in(value[2 : 2 + RESULTS])
-    return Report(up, down, neighbours)
+    return Report(up, down, neighbours, advance)
 
 
 def results_in(octets):
