@@ -50,9 +50,9 @@ class LoadStation(TestStation):
 
     def __init__(self, port, unit, count, at_once):
         self.left, self.count, self.unreleased = count, 0, count
-        # when each burst came, how long its channel took then, when its station answered; and what both took, of all
-        self.begun, self.first, self.answered, self.took = {}, {}, {}, []
-        self.waiting = []
+        # when each burst came; when each channel was asked for, and when its station had answered; and what took how long, of all:
+        # from the burst to the former, and from the latter to the assignment
+        self.begun, self.asked, self.answered, self.took = {}, {}, {}, []
         self.done = threading.Event()
         self.at_once = at_once
         super().__init__(port, unit)
@@ -72,27 +72,26 @@ class LoadStation(TestStation):
         self.count += 1
         reference = f"{self.count % 16:02x}{self.count:04x}"
         self.begun[reference] = time.perf_counter()
-        self.waiting.append(reference)
         self.say(bytes.fromhex(f"0c13018813{reference}1100"))
 
     def take(self, stream, message):
         """Takes a message, and does what a mobile does then."""
         text = message.hex()
         if text.startswith("082101"):
-            # channels are asked for in the order of the bursts
-            reference = self.waiting.pop(0)
-            self.first[text[6:8]] = (reference, time.perf_counter() - self.begun.pop(reference))
-            self.answered[text[6:8]] = time.perf_counter()
+            self.asked[text[6:8]] = time.perf_counter()
         super().take(stream, message)
-        if text.startswith("0c1601902b174d063a"):
-            # it is rejected, and asks again
-            self.waiting.remove(text[20:26])
-            del self.begun[text[20:26]]
-            self.left += 1
-            self.burst()
+        if text.startswith("082101"):
+            self.answered[text[6:8]] = time.perf_counter()
+        elif text.startswith("0c1601902b174d063a"):
+            # up to four are rejected, and ask again
+            for reference in {text[at : at + 6] for at in (20, 28, 36, 44)}:
+                del self.begun[reference]
+                self.left += 1
+                self.burst()
         elif text.startswith("0c1601902b172d063f"):
-            number = text[20:22]
-            self.took.append(self.first.pop(number)[1] + time.perf_counter() - self.answered.pop(number))
+            number, reference = text[20:22], text[26:32]
+            before = self.asked.pop(number) - self.begun.pop(reference)
+            self.took.append(before + time.perf_counter() - self.answered.pop(number))
             self.say(bytes.fromhex(f"020601{number}02000b0012{UPDATE}"))
         elif text.endswith(ACCEPT):
             self.say(bytes.fromhex(f"030201{text[6:8]}02000b0002{COMPLETE}"))
