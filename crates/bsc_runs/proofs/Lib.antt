@@ -1,0 +1,2 @@
+-- what follows of a turn's steps
+pub mod StepFacts

@@ -1,0 +1,4 @@
+pub mod Owed
+pub mod Sent
+pub mod Steps
+pub mod Turns
