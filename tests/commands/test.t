@@ -220,3 +220,17 @@ there.
   [2]
   $ cat errors
   no site: no such file
+
+Those scripts alone whose path has a text. Where none has, nothing is tested, and the status says so.
+
+  $ ./lab test examples/two_cells.toml examples/one_call.txt examples/wrong.txt examples/handover_arrives.txt -k call
+  1..1
+  ok 1 - examples/one_call.txt
+  $ ./lab test -k handover examples/two_cells.toml examples/one_call.txt examples/handover_arrives.txt --undo-everywhere | tail -n 1
+  # same 3, held 0, not settled 0, differ 0
+  $ ./lab test examples/two_cells.toml examples/one_call.txt -k toml 2>&1
+  error: no script has toml in its path (-k)
+  [2]
+  $ ./lab test examples/two_cells.toml examples/one_call.txt -k 2>&1
+  *'-k <TEXT>'* (glob)
+  [2]

@@ -17,6 +17,8 @@ pub(crate) enum Form {
     Flag(&'static str),
     /// `--NAME VALUE`: the name, and what the value is called.
     Valued(&'static str, &'static str, ValueParser<'static>),
+    /// `-LETTER VALUE`: the letter, and what the value is called.
+    Lettered(char, &'static str, ValueParser<'static>),
 }
 
 /// What an argument asks of a command line.
@@ -78,6 +80,9 @@ fn argument<'a>(alloc: Global, row: &ArgumentRow) -> Result<Arg<'a>, AllocError>
         Form::Flag(name) => named.long(name).action(ArgAction::SetTrue),
         Form::Valued(name, value, parser) => {
             named.long(name).value_name(value).value_parser(parser)
+        }
+        Form::Lettered(letter, value, parser) => {
+            named.short(letter).value_name(value).value_parser(parser)
         }
     };
     for rule in row.rules {

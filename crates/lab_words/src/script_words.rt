@@ -1,13 +1,14 @@
 //! The words of the commands that test and record scripts.
 use crate::help::{RECORD_HELP, TEST_HELP};
-use crate::rows::{ArgumentRow, CommandRow, Form, Rule, command};
+use crate::rows::{ArgumentRow, CommandRow, Form, Rule, TEXT, command};
 use crate::site_paths::SitePaths;
 use crate::words::{PEER, SCRIPT, SITE};
 use clap::{ArgMatches, Command};
 use expectations::Recording;
+use screen_text::Escaped;
 use std::alloc::{AllocError, Global};
 
-/// `test SITE SCRIPT.. [--peer SITE] [--undo-everywhere]`
+/// `test SITE SCRIPT.. [--peer SITE] [-k TEXT] [--undo-everywhere]`
 const TEST: CommandRow = CommandRow {
     name: "test",
     about: "Runs scripts, and says which print what their comments expect (TAP)",
@@ -21,6 +22,12 @@ const TEST: CommandRow = CommandRow {
             rules: &[Rule::Required],
         },
         PEER,
+        ArgumentRow {
+            name: "only",
+            form: Form::Lettered('k', "TEXT", TEXT),
+            help: "Takes those scripts alone whose path has this text",
+            rules: &[],
+        },
         ArgumentRow {
             name: "everywhere",
             form: Form::Flag("undo-everywhere"),
@@ -85,10 +92,23 @@ pub(crate) fn site_paths<'a>(matches: &ArgMatches<'a>) -> Option<SitePaths<'a>> 
     })
 }
 
-/// The paths of the scripts.
+/// The paths of the scripts, with `-k TEXT` of those that have this text.
 pub(crate) fn script_paths<'a>(
     alloc: Global,
     matches: &ArgMatches<'a>,
 ) -> Result<Vec<&'a str>, AllocError> {
-    Vec::from_slice(alloc, matches.get_strs("SCRIPT").unwrap_or(&[]))
+    let text = matches.get_str("only").unwrap_or("");
+    let mut paths = Vec::new(alloc);
+    for path in matches.get_strs("SCRIPT").unwrap_or(&[]) {
+        if path.contains(text) {
+            paths.push(*path)?;
+        }
+    }
+    Ok(paths)
+}
+
+/// Why words ask for nothing that name scripts, of which none has the text that is asked for.
+pub(crate) fn none_named(alloc: Global, matches: &ArgMatches<'_>) -> Result<String, AllocError> {
+    let text = matches.get_str("only").unwrap_or("");
+    format!(in alloc; "error: no script has {} in its path (-k)", Escaped(text))
 }

@@ -10,7 +10,7 @@ use crate::journal_words::{JournalWords, entries_of, journal_of, journal_options
 use crate::refused_words::refused_line;
 use crate::rows::{ArgumentRow, COUNTED, CommandRow, Form, Rule, TEXT, command, with};
 use crate::script_words::{
-    is_everywhere, record_command, recording_of, script_paths, site_paths, test_command,
+    is_everywhere, none_named, record_command, recording_of, script_paths, site_paths, test_command,
 };
 use crate::site_paths::SitePaths;
 use crate::storm_words::{StormSize, storm_command, storm_size};
@@ -536,7 +536,7 @@ fn explain_job<'a>(explain: &ArgMatches<'a>) -> Option<Job<'a>> {
     Some(Job::Explain(question_of(explain)?))
 }
 
-/// The job of a command line that was read.
+/// The job of a command line that was read, of any command but `test`.
 fn job_of<'a>(matches: &ArgMatches<'a>) -> Option<Job<'a>> {
     match matches.subcommand()? {
         ("run", run) => run_job(run),
@@ -554,20 +554,26 @@ fn job_of<'a>(matches: &ArgMatches<'a>) -> Option<Job<'a>> {
     }
 }
 
-/// The job of a command line that was read, of which scripts may be many.
-fn any_job_of<'a>(alloc: Global, matches: &ArgMatches<'a>) -> Result<Option<Job<'a>>, AllocError> {
+/// The job of `test`, of which scripts may be many.
+fn test_job<'a>(alloc: Global, test: &ArgMatches<'a>) -> Result<Option<Job<'a>>, WordsFault> {
+    let Some(sites) = site_paths(test) else {
+        return Ok(None);
+    };
+    let scripts = script_paths(alloc, test)?;
+    if scripts.is_empty() {
+        return Err(WordsFault::Refused(none_named(alloc, test)?));
+    }
+    Ok(Some(if is_everywhere(test) {
+        Job::TryUndos { sites, scripts }
+    } else {
+        Job::Test { sites, scripts }
+    }))
+}
+
+/// The job of a command line that was read.
+fn any_job_of<'a>(alloc: Global, matches: &ArgMatches<'a>) -> Result<Option<Job<'a>>, WordsFault> {
     match matches.subcommand() {
-        Some(("test", test)) => {
-            let Some(sites) = site_paths(test) else {
-                return Ok(None);
-            };
-            let scripts = script_paths(alloc, test)?;
-            Ok(Some(if is_everywhere(test) {
-                Job::TryUndos { sites, scripts }
-            } else {
-                Job::Test { sites, scripts }
-            }))
-        }
+        Some(("test", test)) => test_job(alloc, test),
         _ => Ok(job_of(matches)),
     }
 }
