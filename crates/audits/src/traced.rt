@@ -7,6 +7,7 @@ ghost use Rattle.radio_desk.specs.Audit.{events_in, LeadsAlike};
 ghost use Rattle.trace_entries.specs.Entries as said;
 ghost use Rattle.audits.specs.Histories.{OfTheHistory, LeadsApart};
 ghost use Rattle.audits.specs.Traces.{InWholeTrace};
+ghost use Rattle.read_traces.specs.Rewound.{CantBeTold};
 
 use crate::shown::{Asked, Beside, beside_of, print_audit};
 use cell_table::Site;
@@ -117,6 +118,7 @@ fn audit_told<A: Allocator + Copy, W: Write>(
 ) -> Result<Status, LabFault>
     ensures done { result ≡ Ok Status.Done → OfTheHistory LeadsAlike book told.now.events.items }
     ensures differs { result ≡ Ok Status.Differs → OfTheHistory LeadsApart book told.now.events.items }
+    ensures told { result ≢ Ok Status.Refused }
 {
     let opening = book.copy()?;
     let audit = audited_after(alloc, book, told)?;
@@ -140,6 +142,7 @@ fn audit_read<A: Allocator + Copy, W: Write>(
 ) -> Result<Status, LabFault>
     ensures done { result ≡ Ok Status.Done → OfTheHistory LeadsAlike book told.now.events.items }
     ensures differs { result ≡ Ok Status.Differs → OfTheHistory LeadsApart book told.now.events.items }
+    ensures told { result ≢ Ok Status.Refused }
 {
     let choices = choices_of_trace(alloc, texts, told)?;
     audit_told(alloc, book, told, &choices, out)
@@ -158,6 +161,8 @@ fn audit_entries<A: Allocator + Copy, W: Write>(
         OfTheHistory LeadsApart book (said.events_of (said.entries_of texts.entry.trace.now)) }
     ensures replies { (result ≢ Ok Status.Refused) → OnOk result (said.HasReplies texts.entry.trace.now
         (run_replies book (said.events_of (said.entries_of texts.entry.trace.now)))) }
+    ensures refused { result ≡ Ok Status.Refused → ¬ said.HasReplies texts.entry.trace.now
+        (run_replies book (said.events_of (said.entries_of texts.entry.trace.now))) }
 {
     match told_entries(alloc, &book, texts.trace, out)? {
         Some(told) => audit_read(alloc, book, texts, &told, out),
@@ -179,6 +184,9 @@ fn audit_over<A: Allocator + Copy, W: Write>(
         OfTheHistory LeadsApart (empty_book site) (said.events_of (said.entries_of texts.entry.trace.now)) }
     ensures replies { (result ≢ Ok Status.Refused) → OnOk result (said.HasReplies texts.entry.trace.now
         (run_replies (empty_book site) (said.events_of (said.entries_of texts.entry.trace.now)))) }
+    ensures refused { result ≡ Ok Status.Refused → said.first_unreadable texts.entry.trace.now ≡ None →
+        ¬ said.HasReplies texts.entry.trace.now
+        (run_replies (empty_book site) (said.events_of (said.entries_of texts.entry.trace.now))) }
     ensures memory { result ≡ Err LabFault.NoMemory → said.first_unreadable texts.entry.trace.now ≡ None }
 {
     if let Some(number) = first_unreadable(texts.trace) {
@@ -208,6 +216,7 @@ pub fn audit_run<A: Allocator + Copy, W: Write>(
 ) -> Result<Status, LabFault>
     ensures done { result ≡ Ok Status.Done → InWholeTrace LeadsAlike site.now trace.now }
     ensures differs { result ≡ Ok Status.Differs → InWholeTrace LeadsApart site.now trace.now }
+    ensures refused { result ≡ Ok Status.Refused → CantBeTold site.now trace.now }
     ensures memory { result ≡ Err LabFault.NoMemory → ¬ IsBlankFile site.now }
 {
     match Site::read(alloc, scratch, site) {

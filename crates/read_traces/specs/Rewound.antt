@@ -44,6 +44,20 @@ AreSameReplies whole others without = map (slice_get whole) others ≡ map Some 
 abbrev pub IsSame : {A : Type 0} → Rewound A → Type 0
 IsSame r = (r.whole ≡ r.without) × AreSameReplies r.whole_replies.items r.others.items r.without_replies.items
 
+-- the texts describe this site and say events, with the replies of its empty book, asked one after another
+pub record IsTold (site trace : List ℕ) (s : SiteView) : Type 0 where
+  pub described : described_site site ≡ Some s
+  pub readable : first_unreadable trace ≡ None
+  pub replies : HasReplies trace (run_replies (empty_book s) (events_of (entries_of trace)))
+
+-- no site is described, a line can't be read, or a reply isn't that of the site's empty book
+abbrev pub CantBeTold : List ℕ → List ℕ → Type 0
+CantBeTold site trace = (s : SiteView) → IsTold site trace s → ⊥
+
+-- where it can be told, no undone attempt opens in this line
+abbrev pub CantBeTakenOut : List ℕ → List ℕ → ℕ → Type 0
+CantBeTakenOut site trace line = (s : SiteView) → IsTold site trace s → NoneOpens (empty_book s) (entries_of trace) line
+
 -- the texts describe a site and say events with the replies of its empty book, asked one after another; and this holds of the
 -- undone attempt that opens in this line, from that book on
 pub record InTrace (P : State → List Event → Undone → Type 0) (site trace : List ℕ) (line : ℕ) : Type 0 where

@@ -1,5 +1,5 @@
 //! A trace that is read back over the empty book of a site, from which all its replies come.
-ghost use Rattle.std.specs.Prelude.{◌≡◌, IfOk, IfErr, IfSome};
+ghost use Rattle.std.specs.Prelude.{◌≡◌, IfOk, IfErr, IfSome, IfNone};
 ghost use Rattle.radio_book.specs.State.{empty_book};
 ghost use Rattle.radio_book.specs.Run.{run_replies};
 ghost use Rattle.trace_entries.specs.Entries as said;
@@ -86,6 +86,8 @@ pub fn told_entries<A: Allocator + Copy, W: Write>(
     ensures events { IfOk result (λ found. IfSome found (λ told.
         told.events.items ≡ said.events_of (said.entries_of trace.now))) }
     ensures replies { IfOk result (λ found. IfSome found (λ _.
+        said.HasReplies trace.now (run_replies book.now (said.events_of (said.entries_of trace.now))))) }
+    ensures none { IfOk result (λ found. IfNone found (¬
         said.HasReplies trace.now (run_replies book.now (said.events_of (said.entries_of trace.now))))) }
 {
     let told = told_in(alloc, trace)?;

@@ -5,7 +5,7 @@ ghost use Rattle.radio_book.specs.State.{empty_book};
 ghost use Rattle.radio_book.specs.Run.{run_replies};
 ghost use Rattle.radio_book.specs.NoTrace.{LeavesNoTrace};
 ghost use Rattle.trace_entries.specs.Entries as said;
-ghost use Rattle.read_traces.specs.Rewound.{AreSameReplies, IsSame, StandsIn, LeavesATrace, NoneOpens, InEntries, InTrace};
+ghost use Rattle.read_traces.specs.Rewound.{AreSameReplies, IsSame, StandsIn, LeavesATrace, NoneOpens, InEntries, InTrace, CantBeTakenOut};
 
 use crate::choices::{Texts, choices_of_trace, event_lines};
 use crate::reading::{fresh_book, refuse_line, told_entries};
@@ -202,6 +202,9 @@ fn rewind_entries<A: Allocator + Copy, W: Write>(
         InEntries LeavesATrace book.now (said.entries_of texts.entry.trace.now) line }
     ensures replies { (result ≢ Ok Status.Refused) → OnOk result (said.HasReplies texts.entry.trace.now
         (run_replies book.now (said.events_of (said.entries_of texts.entry.trace.now)))) }
+    ensures refused { result ≡ Ok Status.Refused → said.HasReplies texts.entry.trace.now
+        (run_replies book.now (said.events_of (said.entries_of texts.entry.trace.now))) →
+        NoneOpens book.now (said.entries_of texts.entry.trace.now) line }
 {
     let Some(told) = told_entries(alloc, book, texts.trace, out)? else {
         return Ok(Status::Refused);
@@ -231,6 +234,10 @@ fn rewind_trace<A: Allocator + Copy, W: Write>(
         InEntries LeavesATrace (empty_book site) (said.entries_of texts.entry.trace.now) line }
     ensures replies { (result ≢ Ok Status.Refused) → OnOk result (said.HasReplies texts.entry.trace.now
         (run_replies (empty_book site) (said.events_of (said.entries_of texts.entry.trace.now)))) }
+    ensures refused { result ≡ Ok Status.Refused → said.first_unreadable texts.entry.trace.now ≡ None →
+        said.HasReplies texts.entry.trace.now
+        (run_replies (empty_book site) (said.events_of (said.entries_of texts.entry.trace.now))) →
+        NoneOpens (empty_book site) (said.entries_of texts.entry.trace.now) line }
     ensures memory { result ≡ Err LabFault.NoMemory → said.first_unreadable texts.entry.trace.now ≡ None }
 {
     if let Some(number) = first_unreadable(texts.trace) {
@@ -265,6 +272,7 @@ pub fn rewind_run<A: Allocator + Copy, W: Write>(
 ) -> Result<Status, LabFault>
     ensures done { result ≡ Ok Status.Done → InTrace LeavesNoTrace site.now trace.now line }
     ensures differs { result ≡ Ok Status.Differs → InTrace LeavesATrace site.now trace.now line }
+    ensures refused { result ≡ Ok Status.Refused → CantBeTakenOut site.now trace.now line }
     ensures memory { result ≡ Err LabFault.NoMemory → ¬ IsBlankFile site.now }
 {
     match Site::read(alloc, scratch, site) {
