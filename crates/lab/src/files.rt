@@ -1,5 +1,5 @@
 //! Runs over files.
-ghost use Rattle.std.specs.Prelude.{◌≡◌, ◌+◌, ◌<◌, ◌≤◌, length, vec_len, string_bytes, Some, None, IsOk, IfOk, IfErr, IfSome, option_map};
+ghost use Rattle.std.specs.Prelude.{◌≡◌, ◌+◌, ◌<◌, ◌≤◌, length, vec_len, string_bytes, Some, None, Ok, IsOk, IfOk, IfErr, IfSome, option_map};
 ghost use Rattle.std.specs.Str.{IsUtf8};
 ghost use Rattle.std.specs.Str.Lossy.{utf8_valid_len};
 ghost use Rattle.lab.specs.Files.{longest_file};
@@ -175,7 +175,9 @@ fn run_texts<R: Files + AllocGlobal, W: Write, E: Write>(
 pub(crate) fn ended_viewed(
     ended: Result<Status, LabFault>,
     written: Result<(), LabFault>,
-) -> Result<Status, LabFault> {
+) -> Result<Status, LabFault>
+    ensures ended { IfOk result (λ status. ended ≡ Ok status) }
+{
     let status = ended?;
     written?;
     Ok(status)

@@ -1,4 +1,6 @@
 //! The journal of a live controller: what is asked of it, and how it ended.
+ghost use Rattle.std.specs.Prelude.{IsOk, IfOk};
+
 use journal_files::{Lost, WhenLost};
 use journal_opening::Asked;
 use lab_words::JournalWords;
@@ -24,7 +26,9 @@ pub(crate) fn ended_journal<E: Write>(
     lacks_memory: bool,
     words: JournalWords<'_>,
     errors: &mut E,
-) -> Result<Result<(), LiveFault>, LabFault> {
+) -> Result<Result<(), LiveFault>, LabFault>
+    ensures ended { IfOk result (λ now. IsOk now → IsOk ended) }
+{
     if lacks_memory {
         return Ok(Err(LiveFault::NoMemory));
     }

@@ -1,12 +1,19 @@
 //! A controller that is given the lines of standard input as they come.
 //!
 //! No clause says what is printed: which lines are handled is said in `live_runs`.
+ghost use Rattle.std.specs.Prelude.{◌≡◌, false, Ok, IsOk, IfOk, IfSome};
+ghost use Rattle.std.specs.declared.alloc.Global.{Global};
+ghost use Rattle.cell_table.specs.SiteFile.{read_site};
+ghost use Rattle.journal_records.specs.Checksum.{checksum};
+ghost use Rattle.live_runs.specs.Lines.{items_from};
+ghost use Rattle.live_runs.specs.Live.{Played};
+
 use crate::faults::lab_result;
 use crate::files::{ended_viewed, text_of};
 use crate::journals::{asked_of, ended_journal};
 use crate::site_files::say_site;
 use crate::view_paths::{is_site, refuse_twice};
-use cell_table::Site;
+use cell_table::{Site, SiteFault};
 use journal_files::Locking;
 use journal_opening::{Opened, open_journal};
 use journal_records::checksum;
@@ -45,6 +52,20 @@ struct ReadSite {
     sum: u32,
 }
 
+/// The site that a text describes, and the checksum of the text.
+fn read_site(alloc: Global, text: &str) -> Result<Result<ReadSite, SiteFault>, AllocError>
+    ensures site { IfOk result (λ read. IfOk read (λ it. read_site text.now ≡ Ok it.site.value)) }
+    ensures sum { IfOk result (λ read. IfOk read (λ it. it.sum ≡ checksum text.now)) }
+{
+    let site = match Site::read(alloc, alloc, text) {
+        Ok(site) => site,
+        Err(fault) => return Ok(Err(fault)),
+    };
+    let sum = checksum(text.as_bytes());
+    let site = Arc::new(alloc, site).map_err(AllocError::from)?;
+    Ok(Ok(ReadSite { site, sum }))
+}
+
 /// The site of a file; nothing where file or site is refused, and then `out` and `errors` say so.
 fn site_of<R: Files + AllocGlobal, W: Write, E: Write>(
     rt: &R,
@@ -56,11 +77,8 @@ fn site_of<R: Files + AllocGlobal, W: Write, E: Write>(
     let Some(text) = text_of(rt, path, out, errors)? else {
         return Ok(None);
     };
-    match Site::read(alloc, alloc, &text) {
-        Ok(site) => Ok(Some(ReadSite {
-            site: Arc::new(alloc, site).map_err(AllocError::from)?,
-            sum: checksum(text.as_bytes()),
-        })),
+    match read_site(alloc, &text)? {
+        Ok(read) => Ok(Some(read)),
         Err(fault) => {
             refuse_site::<Global, _>(fault, &mut Printing::new(out))?;
             say_site(alloc, path, &text, errors)?;
@@ -70,7 +88,9 @@ fn site_of<R: Files + AllocGlobal, W: Write, E: Write>(
 }
 
 /// How a live run ended. Where standard input couldn't be read, `errors` says why.
-fn ended_live<E: Write>(ended: Result<(), LiveFault>, errors: &mut E) -> Result<Status, LabFault> {
+fn ended_live<E: Write>(ended: Result<(), LiveFault>, errors: &mut E) -> Result<Status, LabFault>
+    ensures done { result ≡ Ok Status.Done → IsOk ended }
+{
     match ended {
         Ok(()) => Ok(Status::Done),
         Err(LiveFault::NoMemory) => Err(LabFault::NoMemory),
@@ -108,7 +128,9 @@ fn live_viewed<R: Files + AllocGlobal, I: BufRead + LineReader, W: Write, E: Wri
 }
 
 /// How lines are taken behind the last one that a journal has.
-fn rules_behind(last: u64, entries: usize) -> Rules {
+fn rules_behind(last: u64, entries: usize) -> Rules
+    ensures sims { result.sims ≡ false }
+{
     Rules {
         first: (last as usize).saturating_add(1),
         entries,
@@ -135,7 +157,10 @@ fn live_journaled<R: Files + AllocGlobal, I: BufRead + LineReader, W: Write, E: 
     reader: &mut I,
     out: &mut W,
     errors: &mut E,
-) -> Result<Status, LabFault> {
+) -> Result<Status, LabFault>
+    ensures handled { result ≡ Ok Status.Done → IfSome (I.remaining reader.old) (λ octets.
+        Played Global opened.entry.book (items_from false false octets)) }
+{
     let alloc = rt.alloc();
     let Some(sheets) = open_sheets(rt, asked.views, out, errors)? else {
         return Ok(Status::Refused);
