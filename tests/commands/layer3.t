@@ -44,8 +44,10 @@ A cause is read in hexadecimal, too, behind 0x and in two digits.
 So it is in scripts.
 
   $ printf 'open 1 0 0 3\nabis 0 0 CHANNEL ACTIVATION ACK tn=3 frame=0\nhandover 1 1\nabis 1 1 CHANNEL ACTIVATION ACK tn=3 frame=0\nabis 1 1 HANDOVER DETECTION tn=3 delay=0\nabis 1 1 DATA INDICATION tn=3 link=0; HANDOVER COMPLETE cause=0x00\n' > came.txt
-  $ ./lab run examples/two_cells.toml came.txt | grep -A1 '^in abis 1 1 03'
+  $ ./lab run examples/two_cells.toml came.txt | grep -A3 '^in abis 1 1 03'
   in abis 1 1 0302010b02000b0003062c00
+  event owner 1/1/3 -> owned 1
+  event look 1 -> record 0/0/3 on internal detected 1/1/3 0
   event complete 1 -> done
   $ printf 'open 1 0 0 3\nabis 1 1 DATA INDICATION tn=3 link=0; HANDOVER COMPLET cause=0\n' > wrong.txt
   $ ./lab run examples/two_cells.toml wrong.txt 2>&1
