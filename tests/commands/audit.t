@@ -84,14 +84,12 @@ Attempts that follow one another, and one that is open at the end.
 
 A trace without an event, and one that isn't there.
 
-  $ printf '' >run.trace
-  $ ./lab audit examples/two_cells.toml run.trace 2>errors
+  $ printf 'end channels=0 calls=0 references=0 timers=0\n' >run.trace
+  $ ./lab audit examples/two_cells.toml run.trace
   attempts 0
   held -
   choices -
   same
-  $ cat errors
-  run.trace: no events: is this a trace?
   $ ./lab audit examples/two_cells.toml nothing.trace 2>errors
   file nothing.trace
   [2]
@@ -118,7 +116,7 @@ Lines that can't be read, and replies that aren't the book's.
   [2]
   $ cat errors
   run.trace:2: no event with its reply, as run prints it: event look 1 -> refused 1
-  $ printf '\n1: in clear 1\n' >run.trace
+  $ printf '\n1: event look 1 -> refused 1\n' >run.trace
   $ ./lab audit examples/two_cells.toml run.trace 2>errors
   line 2
   [2]

@@ -118,3 +118,33 @@ Arrays that stand one in another, at most 80; and a file of 1 MiB.
   $ { yes '# 456789012345678901234567890123456789012345678901234567890123' | head -n 16384; cat site.toml; } >other.toml
   $ ./lab check other.toml | grep -c '^cell'
   2
+
+With a peer: an outside cell that the peer lacks, or that has another carrier or other colour codes there. Cells of the peer that
+are outside cells there, too, aren't the peer's.
+
+  $ ./lab check site.toml --peer examples/one_cell.toml | grep outside
+  outside 64 lac=23 ci=102 bcch=62 bsic=3/0
+  $ for change in 's/bcch = 62/bcch = 63/' 's/ncc = 3/ncc = 4/' 's/ci = 102/ci = 103/'; do
+  >   sed "$change" site.toml >changed.toml
+  >   ./lab check changed.toml --peer examples/one_cell.toml | grep 'warning: outside'
+  > done
+  warning: outside 64: bcch: 63, and the peer's cell 0 has 62
+  warning: outside 64: bsic: 4/0, and the peer's cell 0 has 3/0
+  warning: outside 64: no cell of the peer has lac=23 ci=103
+  $ sed 's/arfcn = 62/arfcn = 63/; s/bcch = 62/bcch = 63/; s/bcc = 0/bcc = 7/' examples/one_cell.toml >peer.toml
+  $ ./lab check site.toml --peer peer.toml | grep 'warning: outside'
+  warning: outside 64: bcch: 62, and the peer's cell 0 has 63
+  warning: outside 64: bsic: 3/0, and the peer's cell 0 has 3/7
+  $ ./lab check site.toml --peer site.toml | grep 'warning: outside'
+  warning: outside 64: no cell of the peer has lac=23 ci=102
+
+Where the peer is refused nothing is printed of the site.
+
+  $ ./lab check site.toml --peer nothing.toml 2>/dev/null
+  file nothing.toml
+  [2]
+  $ ./lab check site.toml --peer refused.toml 2>errors
+  site 4 identity
+  [2]
+  $ cat errors
+  refused.toml: cell 0 and cell 1 have the same lac and ci, which no two cells may have

@@ -148,11 +148,12 @@ The same of other commands.
   [2]
   $ cat errors
   /dev/null: handover is missing: it has to be a table
-  $ ./lab test /dev/null 'no script' 2>errors
+  $ printf '' >empty.toml
+  $ ./lab test empty.toml 'no script' 2>errors
   site 2 handover
   [2]
   $ cat errors
-  /dev/null: handover is missing: it has to be a table
+  empty.toml: handover is missing: it has to be a table
   $ ./lab record 'no site' 'no script' 2>errors
   file no site
   [2]

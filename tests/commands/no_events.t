@@ -1,16 +1,4 @@
-A text without an event is no trace that anything can be taken out of: a script, or a site.
-
-  $ ./lab audit examples/two_cells.toml examples/handover_undone.txt 2>&1 >/dev/null
-  examples/handover_undone.txt: no events: is this a trace?
-  $ ./lab rewind examples/two_cells.toml examples/two_cells.toml 1 2>errors
-  no attempt
-  [2]
-  $ cat errors
-  examples/two_cells.toml: no events: is this a trace?
-  $ ./lab audit examples/two_cells.toml /dev/null 2>&1 >/dev/null
-  /dev/null: no events: is this a trace?
-
-One event is enough.
+A trace with one event, in which no attempt opens.
 
   $ printf 'event look 1 -> refused 1\n' >look.trace
   $ ./lab audit examples/two_cells.toml look.trace 2>&1 >/dev/null

@@ -79,12 +79,12 @@ Of a long trace, too: 5,000 events of others stand between the undo and the rele
 
 Nothing opens in a line that no trace has.
 
-  $ printf '' >run.trace
+  $ printf 'end channels=0 calls=0 references=0 timers=0\n' >run.trace
   $ ./lab rewind examples/two_cells.toml run.trace 1 2>errors
   no attempt
   [2]
   $ cat errors
-  run.trace: no events: is this a trace?
+  run.trace: no attempt that is undone later opens in line 1
   $ printf 'event look 1 -> done\nevent look 01 -> done' >run.trace
   $ ./lab rewind examples/two_cells.toml run.trace 1 2>errors
   line 2
@@ -95,7 +95,7 @@ Nothing opens in a line that no trace has.
   $ ./lab rewind examples/two_cells.toml run.trace 1 2>/dev/null
   line 1
   [2]
-  $ printf '\n1: in clear 1\n' >run.trace
+  $ printf '\n1: event look 1 -> refused 1\n' >run.trace
   $ ./lab rewind examples/two_cells.toml run.trace 1 2>/dev/null
   line 2
   [2]
@@ -130,7 +130,7 @@ Why nothing is taken out.
   [2]
   $ cat errors
   run.trace:1: no event with its reply, as run prints it: event look 1 -> refused 1
-  $ printf 'in clear 1\nevent look 1 -> refused 1\r\nevent look 1 -> done\nevent look 1 -> owned 1\n' >run.trace
+  $ printf 'in clear 1\nevent look 1 -> refused 1\r\nevent look 1 -> done\nevent look 1 -> owned 1\nend channels=0 calls=0 references=0 timers=0\n' >run.trace
   $ ./lab rewind examples/two_cells.toml run.trace 2 2>errors
   line 3
   [2]

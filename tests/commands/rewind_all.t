@@ -18,7 +18,7 @@ person counted. An attempt that isn't undone has no line.
   > event undo 1 t7 -> record 0/0/3 on outgoing required - -
   > event require 1 -> done
   > END
-  $ ./lab rewind examples/two_cells.toml undone.trace --all
+  $ ./lab rewind examples/two_cells.toml undone.trace --all --cut
   line 6 call 1 internal sent others 2-5,10,12-15 settled yes held - choices - same
   line 12 call 1 outgoing required others 2-11,13,15 settled yes held - choices - same
   $ ./lab rewind examples/two_cells.toml examples/handover_arrives.trace --all
@@ -162,7 +162,6 @@ wrong.
   bad.trace:1: the book of this site replies "refused 1" here, and the trace says "done"
   $ printf 'end channels=0 calls=0 references=0 timers=0\n' >none.trace
   $ ./lab rewind examples/two_cells.toml none.trace --all
-  none.trace: no events: is this a trace?
   $ ./lab rewind examples/two_cells.toml none.trace 2>&1
   *not provided: <LINE>* (glob)
   [2]

@@ -215,11 +215,11 @@ there.
   [2]
   $ cat errors
   met\.txt:[0-9]+:[0-9]+: .* (re)
-  $ ./lab test 'no site' met.txt 2>errors
-  file no site
+  $ ./lab test 'no site.toml' met.txt 2>errors
+  file no site.toml
   [2]
   $ cat errors
-  no site: no such file
+  no site.toml: no such file
 
 Those scripts alone whose path has a text. Where none has, nothing is tested, and the status says so.
 

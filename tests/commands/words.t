@@ -5,7 +5,7 @@ missing, and says what is allowed. Nothing stands on standard output.
   *subcommand*run, live, test, record, rewind, audit, summary, storm, check, decode, encode, explain* (glob)
   [2]
   $ ./lab run 2>&1 >>printed
-  *not provided: <SITE> <SCRIPT>*bsc_lab run * (glob)
+  *not provided: <SITE>*bsc_lab run * (glob)
   [2]
   $ ./lab run a.toml 2>&1 >>printed
   *not provided: <SCRIPT>*bsc_lab run * (glob)
@@ -41,7 +41,7 @@ missing, and says what is allowed. Nothing stands on standard output.
   *not provided: <SITE>*bsc_lab check <SITE>* (glob)
   [2]
   $ ./lab check a.toml b.toml 2>&1 >>printed
-  *'b.toml'*bsc_lab check <SITE>* (glob)
+  *'b.toml'*bsc_lab check * <SITE>* (glob)
   [2]
   $ ./lab explain 2>&1 >>printed
   *subcommand*refused, cause, fault* (glob)
@@ -128,7 +128,7 @@ A rewind, and words with ends of lines, blanks and control characters, none of w
   *not provided: <TRACE>*bsc_lab audit <SITE> <TRACE>* (glob)
   [2]
   $ ./lab audit a b 1 2>&1 >>printed
-  *'1'*bsc_lab audit <SITE> <TRACE>* (glob)
+  *'1'*bsc_lab audit * <SITE> <TRACE>* (glob)
   [2]
   $ ./lab rewind a b 2>&1 >>printed
   *not provided: <LINE>*bsc_lab rewind <SITE> <TRACE> <LINE>* (glob)
@@ -165,7 +165,7 @@ A rewind, and words with ends of lines, blanks and control characters, none of w
   $ ./lab check a.toml "$(printf '\n\nUsage: \r')" 2>errors
   [2]
   $ cat errors
-  *'\\n\\nUsage: \\r'*bsc_lab check <SITE>* (glob)
+  *'\\n\\nUsage: \\r'*bsc_lab check * <SITE>* (glob)
   $ grep -c '[[:cntrl:]]' errors
   0
   [1]

@@ -1,40 +1,65 @@
 //! A site as it was read, and what is surely meant otherwise.
 //!
 //! No clause says what is printed; which site a text describes is said in `cell_table`.
-use crate::files::text_of;
-use crate::site_files::say_site;
+use crate::site_files::{SitePaths, say_reasons, site_texts};
 use cell_table::Site;
-use lab_runs::run::{Status, refuse_site};
+use lab_runs::run::{Sites, Status, read_sites, refuse_site};
 use run_listeners::{LabFault, Printing};
-use site_text::{print_cells, print_warnings};
+use site_text::{print_cells, print_peer_warnings, print_warnings};
 use std::alloc::Global;
 use std::io::Write;
 use std::rt::Files;
 use toml::Value;
 
+/// Prints what is allowed in the text of a site, which was read, and surely meant otherwise.
+fn print_warnings_of<W: Write>(
+    alloc: Global,
+    site: &Site,
+    text: &str,
+    out: &mut W,
+) -> Result<(), LabFault> {
+    // what is TOML lacks nothing but memory the second time
+    let document = toml::table_from_str(alloc, text).map_err(|_| LabFault::NoMemory)?;
+    Ok(print_warnings(site, &Value::Table(document), out)?)
+}
+
+/// Prints the cells of a site, its warnings, and those beside its peer's, where there is one.
+fn print_sites<W: Write>(
+    alloc: Global,
+    sites: &Sites<Global>,
+    text: &str,
+    out: &mut W,
+) -> Result<(), LabFault> {
+    print_cells(&sites.first, out)?;
+    print_warnings_of(alloc, &sites.first, text, out)?;
+    if let Some(peer) = &sites.peer {
+        print_peer_warnings(&sites.first, peer, out)?;
+    }
+    Ok(())
+}
+
 /// Reads the site of a file and prints its cells, and what is allowed in the file and surely meant otherwise
-/// ([`print_cells`], [`print_warnings`]). A file and a site are refused as [`run_files`](crate::files::run_files) does.
+/// ([`print_cells`], [`print_warnings`]); where a peer's is named, which of its outside cells aren't as that has them, too
+/// ([`print_peer_warnings`]). Files and sites are refused as [`run_files`](crate::files::run_files) does.
 pub fn check_file<R: Files + AllocGlobal, W: Write, E: Write>(
     rt: &R,
-    path: &str,
+    paths: SitePaths<'_>,
     out: &mut W,
     errors: &mut E,
 ) -> Result<Status, LabFault> {
     let alloc = rt.alloc();
-    let Some(text) = text_of(rt, path, out, errors)? else {
+    let Some(texts) = site_texts(rt, paths, out, errors)? else {
         return Ok(Status::Refused);
     };
-    let site = match Site::read(alloc, alloc, &text) {
-        Ok(site) => site,
+    match read_sites(alloc, alloc, texts.first(), texts.peer()) {
+        Ok(sites) => {
+            print_sites(alloc, &sites, texts.first(), out)?;
+            Ok(Status::Done)
+        }
         Err(fault) => {
             let status = refuse_site::<Global, _>(fault, &mut Printing::new(out))?;
-            say_site(alloc, path, &text, errors)?;
-            return Ok(status);
+            let _ = say_reasons(alloc, paths, &texts, errors)?;
+            Ok(status)
         }
-    };
-    print_cells(&site, out)?;
-    // what is TOML lacks nothing but memory the second time
-    let document = toml::table_from_str(alloc, &text).map_err(|_| LabFault::NoMemory)?;
-    print_warnings(&site, &Value::Table(document), out)?;
-    Ok(Status::Done)
+    }
 }

@@ -6,8 +6,8 @@ ghost use Rattle.lab.specs.Files.{longest_file};
 
 use crate::run_reason::{say_cut_script, say_refusal};
 use crate::script_notes::say_idle_settings;
-use crate::script_sites::say_other_sites;
-use crate::site_files::{SitePaths, SiteTexts, site_texts};
+use crate::script_sites::{say_other_sites, sites_named_by};
+use crate::site_files::{GivenPaths, SitePaths, SiteTexts, site_texts};
 use crate::view_paths::{named_twice, refuse_twice};
 use audits::viewed::{AskedRun, audit_viewed};
 use lab_runs::run::{Status, lab_run, run_for};
@@ -278,24 +278,8 @@ fn say_ended<E: Write>(
     Ok(status)
 }
 
-/// Runs the script of one file over the site of another, or over two where a peer's is named, and prints the trace to
-/// `out`, as [`lab_run`] does of texts.
-///
-/// Where views are asked for, their files are opened or made before the run begins, and emptied and written once it ended,
-/// but not where a site or the script is refused; one that can't be opened is refused as one that can't be read, and so
-/// is, before anything is read, one that is another file of the run. One file that is made for both is refused then.
-///
-/// Where a summary is asked for, what the run came to stands behind the trace's end, in words or as one JSON object.
-///
-/// Where an audit is asked for, all settled attempts are taken out of what each controller was asked, at the end, and what
-/// that comes to is printed behind that ([`audit_viewed`]): the answer is `Differs` where something differs then.
-///
-/// The site's file is read first, then the peer's, then the script's. Where a file isn't there, can't be read, isn't UTF-8
-/// or has more than [`LONGEST_FILE`] octets, `file` and its path are printed and nothing else, and the answer is `Refused`;
-/// one line on `errors` says why. One says of a script whose last line has no line feed that it may be cut, and one of each
-/// site that it names and isn't run over. Where a site is refused, one line on `errors` says where in its file, and what is
-/// allowed there; where a line of the script is, one says which of its words is wrong, and what may stand there.
-pub fn run_files<R: Files + AllocGlobal, W: Write, E: Write>(
+/// Runs the script of one file over the sites of others.
+fn run_over<R: Files + AllocGlobal, W: Write, E: Write>(
     rt: &R,
     sites: SitePaths<'_>,
     script: &str,
@@ -317,6 +301,43 @@ pub fn run_files<R: Files + AllocGlobal, W: Write, E: Write>(
     };
     match ended {
         Some(status) => say_ended(rt.alloc(), sites, script, &texts, status, errors),
+        None => Ok(Status::Refused),
+    }
+}
+
+/// Runs the script of one file over the site of another, or over two where a peer's is named, and prints the trace to
+/// `out`, as [`lab_run`] does of texts. Where no site is given the script has to name its own; it is read for that first.
+///
+/// Where views are asked for, their files are opened or made before the run begins, and emptied and written once it ended,
+/// but not where a site or the script is refused; one that can't be opened is refused as one that can't be read, and so
+/// is, before anything is read, one that is another file of the run. One file that is made for both is refused then.
+///
+/// Where a summary is asked for, what the run came to stands behind the trace's end, in words or as one JSON object.
+///
+/// Where an audit is asked for, all settled attempts are taken out of what each controller was asked, at the end, and what
+/// that comes to is printed behind that ([`audit_viewed`]): the answer is `Differs` where something differs then.
+///
+/// The site's file is read first, then the peer's, then the script's. Where a file isn't there, can't be read, isn't UTF-8
+/// or has more than [`LONGEST_FILE`] octets, `file` and its path are printed and nothing else, and the answer is `Refused`;
+/// one line on `errors` says why. One says of a script whose last line has no line feed that it may be cut, and one of each
+/// site that it names and isn't run over. Where a site is refused, one line on `errors` says where in its file, and what is
+/// allowed there; where a line of the script is, one says which of its words is wrong, and what may stand there.
+pub fn run_files<R: Files + AllocGlobal, W: Write, E: Write>(
+    rt: &R,
+    sites: GivenPaths<'_>,
+    script: &str,
+    views: &Views<'_>,
+    ending: Ending,
+    out: &mut W,
+    errors: &mut E,
+) -> Result<Status, LabFault> {
+    let peer = sites.peer;
+    if let Some(first) = sites.first {
+        let sites = SitePaths { first, peer };
+        return run_over(rt, sites, script, views, ending, out, errors);
+    }
+    match sites_named_by(rt, peer, script, out, errors)? {
+        Some(named) => run_over(rt, named.paths(), script, views, ending, out, errors),
         None => Ok(Status::Refused),
     }
 }

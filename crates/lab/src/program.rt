@@ -105,7 +105,13 @@ where
             };
             live_file(rt, asked, input, out, errors)
         }
-        Ok(Job::Test { sites, scripts }) => test_files(rt, sites, &scripts, out, errors),
+        Ok(
+            Job::Test {
+                sites,
+                scripts,
+                report,
+            },
+        ) => test_files(rt, sites, &scripts, report, out, errors),
         Ok(Job::TryUndos { sites, scripts }) => try_undos_files(rt, sites, &scripts, out, errors),
         Ok(
             Job::Record {
@@ -119,7 +125,7 @@ where
         Ok(Job::Audit { site, trace }) => audit_files(rt, site, trace, out, errors),
         Ok(Job::Summary { trace, form }) => summary_file(rt, trace, form, out, errors),
         Ok(Job::Storm { .. }) => refuse_words(STORM_ALONE, errors),
-        Ok(Job::Check { site }) => check_file(rt, site, out, errors),
+        Ok(Job::Check { sites }) => check_file(rt, sites, out, errors),
         Ok(Job::Decode { link, text }) => decode(rt.alloc(), link, text, out, errors),
         Ok(Job::DecodeLines { asked, path }) => {
             ended(answer_file(rt, asked, path, input, out, errors))

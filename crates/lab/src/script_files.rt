@@ -1,9 +1,13 @@
 //! Tests and records of scripts in files.
 use crate::files::text_of;
+use crate::junit::Report;
 use crate::run_reason::{Naming, say_cut_script, say_line, say_refusal};
 use crate::script_notes::{say_idle_settings, say_never, say_slipped};
-use crate::script_sites::{ScriptSites, fault_of, say_other_sites, sites_of_script};
-use crate::site_files::{SitePaths, SiteTexts, say_reasons, site_texts};
+use crate::script_sites::{
+    GivenSites, ScriptSites, fault_of, say_other_sites, sites_named_by, sites_of_script,
+};
+use crate::site_files::{GivenPaths, SitePaths, SiteTexts, say_reasons, site_texts};
+use crate::view_paths::{is_same, refuse_twice};
 use expectations::Recording;
 use idle_settings::Idle;
 use lab_runs::run::{Status, refuse_site};
@@ -24,13 +28,6 @@ fn worse(one: Status, other: Status) -> Status {
         (Status::Differs, _) | (_, Status::Differs) => Status::Differs,
         (Status::Done, Status::Done) => Status::Done,
     }
-}
-
-/// The sites that are given for scripts that name none: their paths and their texts.
-#[derive(Drop)]
-struct GivenSites<'a> {
-    paths: SitePaths<'a>,
-    texts: SiteTexts,
 }
 
 /// What of a script makes that it isn't met, whatever comes of it.
@@ -154,10 +151,10 @@ fn test_file<R: Files + AllocGlobal, W: Write, E: Write>(
     };
     say_cut_script(test.name, &script, errors)?;
     say_slipped(test.name, &script, errors)?;
-    match sites_of_script(rt, given.paths, test.name, &script, errors)? {
-        ScriptSites::Given => {
+    match sites_of_script(rt, given, test.name, &script, errors)? {
+        ScriptSites::Given(texts) => {
             let naming = Naming::Given;
-            test_over(alloc, &given.texts, naming, &script, test, out, errors)
+            test_over(alloc, texts, naming, &script, test, out, errors)
         }
         ScriptSites::Named(texts) => {
             let naming = Naming::InScript;
@@ -170,13 +167,13 @@ fn test_file<R: Files + AllocGlobal, W: Write, E: Write>(
     }
 }
 
-/// Sites that can be run over; nothing where a file or a site is refused, and then `out` and `errors` say so.
-fn readable_sites<'a, R: Files + AllocGlobal, W: Write, E: Write>(
+/// The texts of sites that can be run over; nothing where a file or a site is refused, and then `out` and `errors` say so.
+fn readable_texts<R: Files + AllocGlobal, W: Write, E: Write>(
     rt: &R,
-    paths: SitePaths<'a>,
+    paths: SitePaths<'_>,
     out: &mut W,
     errors: &mut E,
-) -> Result<Option<GivenSites<'a>>, LabFault> {
+) -> Result<Option<SiteTexts>, LabFault> {
     let Some(texts) = site_texts(rt, paths, out, errors)? else {
         return Ok(None);
     };
@@ -185,34 +182,128 @@ fn readable_sites<'a, R: Files + AllocGlobal, W: Write, E: Write>(
         say_reasons(rt.alloc(), paths, &texts, errors)?;
         return Ok(None);
     }
-    Ok(Some(GivenSites { paths, texts }))
+    Ok(Some(texts))
 }
 
-/// Tests the scripts of some files over the site of another, or over two where a peer's is named, as [`test_run`] does of
-/// texts, and prints TAP: how many there are, and then each. A script that can't be read is refused, and those behind it
-/// are tested all the same: the answer is `Refused` where one was refused, else `Differs` where one differs. The files of
-/// sites, and sites, are refused as by [`run_files`](crate::files::run_files), and then no script is read.
-pub fn test_files<R: Files + AllocGlobal, W: Write, E: Write>(
+/// The sites that are given for scripts; nothing where a file or a site is refused, and then `out` and `errors` say so.
+fn readable_sites<'a, R: Files + AllocGlobal, W: Write, E: Write>(
     rt: &R,
-    paths: SitePaths<'_>,
-    scripts: &[&str],
+    paths: GivenPaths<'a>,
+    out: &mut W,
+    errors: &mut E,
+) -> Result<Option<GivenSites<'a>>, LabFault> {
+    let Some(first) = paths.first else {
+        return Ok(Some(GivenSites { paths, texts: None }));
+    };
+    let peer = paths.peer;
+    match readable_texts(rt, SitePaths { first, peer }, out, errors)? {
+        Some(texts) => {
+            let texts = Some(texts);
+            Ok(Some(GivenSites { paths, texts }))
+        }
+        None => Ok(None),
+    }
+}
+
+/// The text that octets are, which a program printed.
+fn text_printed(alloc: Global, printed: Vec<u8>) -> String {
+    match String::from_utf8(printed) {
+        Ok(text) => text,
+        Err(_) => String::new(alloc),
+    }
+}
+
+/// Tests the script of a file, and notes how that ended in a report, where there is one.
+fn test_noted<R: Files + AllocGlobal, W: Write, E: Write>(
+    rt: &R,
+    given: &GivenSites<'_>,
+    test: Numbered<'_>,
+    report: &mut Option<Report>,
     out: &mut W,
     errors: &mut E,
 ) -> Result<Status, LabFault> {
-    let Some(sites) = readable_sites(rt, paths, out, errors)? else {
-        return Ok(Status::Refused);
+    let Some(report) = report else {
+        return test_file(rt, given, test, out, errors);
     };
+    let alloc = rt.alloc();
+    let mut printed = Vec::new(alloc);
+    let status = test_file(rt, given, test, &mut printed, errors)?;
+    out.write_all(&printed)?;
+    report.note(alloc, test.name, status, &text_printed(alloc, printed))?;
+    Ok(status)
+}
+
+/// Tests the scripts of some files, one after another.
+fn test_all<R: Files + AllocGlobal, W: Write, E: Write>(
+    rt: &R,
+    given: &GivenSites<'_>,
+    scripts: &[&str],
+    report: &mut Option<Report>,
+    out: &mut W,
+    errors: &mut E,
+) -> Result<Status, LabFault> {
     print_plan(out, scripts.len())?;
     let mut ended = Status::Done;
     let mut number = 0_usize;
     for name in scripts {
         number = number.saturating_add(1);
         let test = Numbered { number, name };
-        ended = worse(ended, test_file(rt, &sites, test, out, errors)?);
+        ended = worse(ended, test_noted(rt, given, test, report, out, errors)?);
         // whoever reads the tests sees each as soon as it ended
         out.flush()?;
     }
     Ok(ended)
+}
+
+/// Tests the scripts of some files over the sites that they name, or those that are given.
+fn test_given<R: Files + AllocGlobal, W: Write, E: Write>(
+    rt: &R,
+    paths: GivenPaths<'_>,
+    scripts: &[&str],
+    report: &mut Option<Report>,
+    out: &mut W,
+    errors: &mut E,
+) -> Result<Status, LabFault> {
+    match readable_sites(rt, paths, out, errors)? {
+        Some(sites) => test_all(rt, &sites, scripts, report, out, errors),
+        None => Ok(Status::Refused),
+    }
+}
+
+/// Whether the file of a report is one that is read: that would be lost.
+fn is_read<R: Files>(rt: &R, paths: GivenPaths<'_>, scripts: &[&str], report: &str) -> bool {
+    let is_site = paths.first.is_some_and(|site| is_same(rt, site, report));
+    let is_peer = paths.peer.is_some_and(|site| is_same(rt, site, report));
+    is_site || is_peer || scripts.iter().any(|script| is_same(rt, *script, report))
+}
+
+/// Tests the scripts of some files, each over the sites that it names, or else over those that are given, as [`test_run`] does of
+/// texts, and prints TAP: how many there are, and then each. A script that can't be read is refused, and those behind it
+/// are tested all the same: the answer is `Refused` where one was refused, else `Differs` where one differs. The files of
+/// sites, and sites, are refused as by [`run_files`](crate::files::run_files), and then no script is read.
+///
+/// Where a report is asked for it is written at the end, in the form of JUnit; where it can't be the answer is `Refused`, and
+/// `errors` says why. Its file is refused before anything is read where it is one of those that are.
+pub fn test_files<R: Files + AllocGlobal, W: Write, E: Write>(
+    rt: &R,
+    paths: GivenPaths<'_>,
+    scripts: &[&str],
+    report: Option<&str>,
+    out: &mut W,
+    errors: &mut E,
+) -> Result<Status, LabFault> {
+    let Some(path) = report else {
+        return test_given(rt, paths, scripts, &mut None, out, errors);
+    };
+    if is_read(rt, paths, scripts, path) {
+        return refuse_twice(path, out, errors);
+    }
+    let mut report = Some(Report::new(rt.alloc()));
+    let ended = test_given(rt, paths, scripts, &mut report, out, errors)?;
+    match report {
+        Some(report) if !report.write_to(rt, path, errors)? => Ok(Status::Refused),
+        Some(_) | None => Ok(ended),
+    }
 }
 
 /// Takes each attempt of a script back at each point, over sites that can be run over.
@@ -255,19 +346,10 @@ fn try_file<R: Files + AllocGlobal, W: Write, E: Write>(
         return Ok(Status::Refused);
     };
     say_cut_script(name, &script, errors)?;
-    match sites_of_script(rt, given.paths, name, &script, errors)? {
-        ScriptSites::Given => {
+    match sites_of_script(rt, given, name, &script, errors)? {
+        ScriptSites::Given(texts) => {
             let naming = Naming::Given;
-            try_over(
-                alloc,
-                &given.texts,
-                naming,
-                &script,
-                name,
-                tally,
-                out,
-                errors,
-            )
+            try_over(alloc, texts, naming, &script, name, tally, out, errors)
         }
         ScriptSites::Named(texts) => {
             let naming = Naming::InScript;
@@ -288,12 +370,12 @@ fn say_no_attempts<E: Write>(tally: &Tally, errors: &mut E) -> io::Result<()> {
     Ok(())
 }
 
-/// Takes each attempt of the scripts of some files back at each point, over the site of another, or over two where a peer's is
-/// named, as [`try_undos`] does of texts, and prints TAP: each test, then how many there were and what came of them; where
+/// Takes each attempt of the scripts of some files back at each point, over sites as [`test_files`] does, as [`try_undos`] does of
+/// texts, and prints TAP: each test, then how many there were and what came of them; where
 /// there was none, `errors` says so. Scripts and sites are refused as by [`test_files`].
 pub fn try_undos_files<R: Files + AllocGlobal, W: Write, E: Write>(
     rt: &R,
-    paths: SitePaths<'_>,
+    paths: GivenPaths<'_>,
     scripts: &[&str],
     out: &mut W,
     errors: &mut E,
@@ -311,10 +393,8 @@ pub fn try_undos_files<R: Files + AllocGlobal, W: Write, E: Write>(
     Ok(ended)
 }
 
-/// Records the script of a file, in these forms, over the site of another, or over two where a peer's is named, as
-/// [`record_run`] does of texts. Files and sites are refused as by [`run_files`](crate::files::run_files), and the same is said of
-/// the script.
-pub fn record_file<R: Files + AllocGlobal, W: Write, E: Write>(
+/// Records the script of a file over the sites of others.
+fn record_over<R: Files + AllocGlobal, W: Write, E: Write>(
     rt: &R,
     paths: SitePaths<'_>,
     script: &str,
@@ -339,4 +419,26 @@ pub fn record_file<R: Files + AllocGlobal, W: Write, E: Write>(
         say_idle_settings(alloc, script, &sites, &text, errors)?;
     }
     Ok(status)
+}
+
+/// Records the script of a file, in these forms, over the sites that are given, or else over those that it names, as
+/// [`record_run`] does of texts. Files and sites are refused as by [`run_files`](crate::files::run_files), and the same is said of
+/// the script.
+pub fn record_file<R: Files + AllocGlobal, W: Write, E: Write>(
+    rt: &R,
+    paths: GivenPaths<'_>,
+    script: &str,
+    recording: Recording,
+    out: &mut W,
+    errors: &mut E,
+) -> Result<Status, LabFault> {
+    let peer = paths.peer;
+    if let Some(first) = paths.first {
+        let sites = SitePaths { first, peer };
+        return record_over(rt, sites, script, recording, out, errors);
+    }
+    match sites_named_by(rt, peer, script, out, errors)? {
+        Some(named) => record_over(rt, named.paths(), script, recording, out, errors),
+        None => Ok(Status::Refused),
+    }
 }

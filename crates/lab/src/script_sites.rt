@@ -1,5 +1,6 @@
 //! The sites that a script names for itself.
-use crate::site_files::{SitePaths, SiteTexts, say_reasons, site_texts};
+use crate::files::text_of;
+use crate::site_files::{GivenPaths, SitePaths, SiteTexts, say_reasons, site_texts};
 use crate::view_paths::is_same;
 use cell_table::SiteFault;
 use expectations::{peer_in, site_in};
@@ -30,11 +31,19 @@ struct Twice {
     before: usize,
 }
 
+/// The sites that are given for scripts that name none.
+#[derive(Drop)]
+pub(crate) struct GivenSites<'a> {
+    pub paths: GivenPaths<'a>,
+    /// Their texts; `None` where each script has to name its own.
+    pub texts: Option<SiteTexts>,
+}
+
 /// The sites over which a script is run.
 #[derive(Drop)]
-pub(crate) enum ScriptSites {
+pub(crate) enum ScriptSites<'g> {
     /// It names none: those that are given.
-    Given,
+    Given(&'g SiteTexts),
     /// Those that it names.
     Named(SiteTexts),
     /// It can't be run over what it names: why.
@@ -98,7 +107,7 @@ fn texts_at<R: Files + AllocGlobal, E: Write>(
     rt: &R,
     paths: SitePaths<'_>,
     errors: &mut E,
-) -> Result<ScriptSites, LabFault> {
+) -> Result<ScriptSites<'static>, LabFault> {
     let Some(texts) = site_texts(rt, paths, &mut io::sink(), errors)? else {
         return Ok(ScriptSites::Unreadable(Miss::NoSite));
     };
@@ -109,43 +118,126 @@ fn texts_at<R: Files + AllocGlobal, E: Write>(
     Ok(ScriptSites::Named(texts))
 }
 
-/// Says that a script names a second site, or a second peer's; it can't be run over that.
-fn refuse_twice<E: Write>(path: &str, twice: Twice, errors: &mut E) -> io::Result<ScriptSites> {
+/// Says that a script names a second site, or a second peer's: it can't be run over that.
+fn say_twice<E: Write>(path: &str, twice: Twice, errors: &mut E) -> io::Result<()> {
     let Twice { line, before } = twice;
     let path = Escaped(path);
     writeln!(
         errors,
         "{path}:{line}: line {before} has named one: a script names one site, and one peer"
-    )?;
-    Ok(ScriptSites::Unreadable(Miss::Unreadable(line)))
+    )
+}
+
+/// Says that a script has no site.
+fn say_unnamed<E: Write>(path: &str, errors: &mut E) -> io::Result<()> {
+    writeln!(
+        errors,
+        "{}: no site is given, and the script names none (#% site PATH)",
+        Escaped(path)
+    )
+}
+
+/// The sites of a script that names none, where some are given.
+fn given_sites<'g, E: Write>(
+    given: &'g GivenSites<'_>,
+    path: &str,
+    errors: &mut E,
+) -> io::Result<ScriptSites<'g>> {
+    match &given.texts {
+        Some(texts) => Ok(ScriptSites::Given(texts)),
+        None => {
+            say_unnamed(path, errors)?;
+            Ok(ScriptSites::Unreadable(Miss::NoSite))
+        }
+    }
 }
 
 /// The sites that the script of a file names, from its folder on. One that names its own site has a peer only where it names
 /// that, too; one that names a peer alone is run over the given site and that. It may name each once.
-pub(crate) fn sites_of_script<R: Files + AllocGlobal, E: Write>(
+pub(crate) fn sites_of_script<'g, R: Files + AllocGlobal, E: Write>(
     rt: &R,
-    given: SitePaths<'_>,
+    given: &'g GivenSites<'_>,
     path: &str,
     script: &str,
     errors: &mut E,
-) -> Result<ScriptSites, LabFault> {
+) -> Result<ScriptSites<'g>, LabFault> {
     let named = match named_in(script) {
         Ok(named) => named,
-        Err(twice) => return Ok(refuse_twice(path, twice, errors)?),
+        Err(twice) => {
+            say_twice(path, twice, errors)?;
+            return Ok(ScriptSites::Unreadable(Miss::Unreadable(twice.line)));
+        }
     };
-    let first = named_beside(rt.alloc(), path, named.first)?;
+    let own = named_beside(rt.alloc(), path, named.first)?;
     let peer = named_beside(rt.alloc(), path, named.peer)?;
-    if first.is_none() && peer.is_none() {
-        return Ok(ScriptSites::Given);
+    let site = own.as_ref().map(|path| path.as_str());
+    match (site.or(given.paths.first), &peer) {
+        (Some(first), _) if own.is_some() || peer.is_some() => {
+            let peer = peer.as_ref().map(|path| path.as_str());
+            texts_at(rt, SitePaths { first, peer }, errors)
+        }
+        _ => Ok(given_sites(given, path, errors)?),
     }
-    let paths = SitePaths {
-        first: match &first {
-            Some(path) => path.as_str(),
-            None => given.first,
-        },
-        peer: peer.as_ref().map(|path| path.as_str()),
+}
+
+/// The paths of the sites that a script names.
+#[derive(Drop)]
+pub(crate) struct NamedSites {
+    first: String,
+    peer: Option<String>,
+}
+
+impl NamedSites {
+    /// The paths of a run over them.
+    pub(crate) fn paths(&self) -> SitePaths<'_> {
+        SitePaths {
+            first: &self.first,
+            peer: self.peer.as_ref().map(|path| path.as_str()),
+        }
+    }
+}
+
+/// The path of the peer of a script that names its site: the one that it names, or else the one that is given.
+fn peer_beside(
+    alloc: Global,
+    script: &str,
+    named: Named<'_>,
+    given: Option<&str>,
+) -> Result<Option<String>, AllocError> {
+    match (named, given) {
+        (Some((_, path)), _) => Ok(Some(beside(alloc, script, path)?)),
+        (None, Some(path)) => Ok(Some(String::from_str(alloc, path)?)),
+        (None, None) => Ok(None),
+    }
+}
+
+/// The paths of the sites that the script of a file names, from its folder on, where none is given for it, or a peer's alone;
+/// nothing where the file can't be read, and then its path was printed, or where it names no site, or one twice; and on `errors`
+/// why.
+pub(crate) fn sites_named_by<R: Files + AllocGlobal, W: Write, E: Write>(
+    rt: &R,
+    peer: Option<&str>,
+    script: &str,
+    out: &mut W,
+    errors: &mut E,
+) -> Result<Option<NamedSites>, LabFault> {
+    let alloc = rt.alloc();
+    let Some(text) = text_of(rt, script, out, errors)? else {
+        return Ok(None);
     };
-    texts_at(rt, paths, errors)
+    let named = match named_in(&text) {
+        Ok(named) => named,
+        Err(twice) => {
+            say_twice(script, twice, errors)?;
+            return Ok(None);
+        }
+    };
+    let Some(first) = named_beside(alloc, script, named.first)? else {
+        say_unnamed(script, errors)?;
+        return Ok(None);
+    };
+    let peer = peer_beside(alloc, script, named.peer, peer)?;
+    Ok(Some(NamedSites { first, peer }))
 }
 
 /// Says that a line of a script names another site than this, if it does.
@@ -196,8 +288,8 @@ fn say_other_peer<R: Files + AllocGlobal, E: Write>(
     }
 }
 
-/// Says where a script names another site, or another peer's, than those over which it is run: only `test` goes by what it
-/// names.
+/// Says where a script names another site, or another peer's, than those over which it is run: `run` and `record` go by what it
+/// names where no site is given.
 pub(crate) fn say_other_sites<R: Files + AllocGlobal, E: Write>(
     rt: &R,
     given: SitePaths<'_>,

@@ -1,7 +1,7 @@
 //! The files of the sites of a run.
 use crate::faults::lab_result;
 use crate::files::text_of;
-pub use lab_words::SitePaths;
+pub use lab_words::{GivenPaths, SitePaths};
 use run_listeners::LabFault;
 use site_text::say_reason;
 use std::alloc::Global;

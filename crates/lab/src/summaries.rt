@@ -2,6 +2,7 @@
 use crate::journal_text::{behind_head, trace_of};
 use attempt_lists::{first_unmarked, is_of_two};
 use lab_runs::run::Status;
+use lab_words::TracePath;
 use run_listeners::LabFault;
 use run_summaries::{RunSummary, SummaryWords, TraceFault, json_text, summary_of_trace};
 use screen_text::Escaped;
@@ -46,31 +47,25 @@ fn refuse_line<W: Write, E: Write>(
 }
 
 /// Prints what the trace of a file tells, counted for each cell and in all ([`summary_of_trace`]), in words or as one JSON
-/// object; of a journal's file what stands behind its head, whose book came to be before. The file is refused as by [`run_files`](crate::files::run_files). A line that begins as one that is counted, and
-/// isn't one, is refused: `line` and its number are printed, and one line on `errors` says so. One says where a text has
-/// nothing that is counted.
+/// object; of a journal's file what stands behind its head, whose book came to be before. The file is refused as by
+/// [`rewind_files`](crate::trace_files::rewind_files). A line that begins as one that is counted, and isn't one, is refused:
+/// `line` and its number are printed, and one line on `errors` says so.
 pub fn summary_file<R: Files + AllocGlobal, W: Write, E: Write>(
     rt: &R,
-    path: &str,
+    trace: TracePath<'_>,
     form: SummaryForm,
     out: &mut W,
     errors: &mut E,
 ) -> Result<Status, LabFault> {
     let alloc = rt.alloc();
-    let Some(trace) = trace_of(rt, path, out, errors)? else {
+    let path = trace.path;
+    let Some(trace) = trace_of(rt, trace, out, errors)? else {
         return Ok(Status::Refused);
     };
     let (before, told) = behind_head(&trace);
     match summary_of_trace(alloc, told) {
         Ok(summary) => {
             print_summary(alloc, &summary, form, out)?;
-            if summary.is_empty() && before == 0 {
-                writeln!(
-                    errors,
-                    "{}: nothing is counted: is this a trace?",
-                    Escaped(path)
-                )?;
-            }
             Ok(Status::Done)
         }
         Err(TraceFault::Line(number)) => {

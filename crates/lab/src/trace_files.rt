@@ -5,6 +5,7 @@ use crate::site_files::{SitePaths, SiteTexts, say_reasons, say_site, site_texts}
 use attempt_lists::{first_unmarked, is_of_two, list_run, side_text};
 use audits::traced::audit_run;
 use lab_runs::run::Status;
+use lab_words::TracePath;
 use read_traces::reasons::say_untold;
 use read_traces::rewound::rewind_run;
 use run_listeners::LabFault;
@@ -21,12 +22,12 @@ struct Texts {
     trace: String,
 }
 
-/// The texts of a site's file and of a trace's, of which the site's is read first; nothing where one can't be read, and then
-/// the path of the first such was printed, and on `errors` why.
+/// The texts of a site's file and of a trace's, of which the site's is read first; nothing where one can't be read or the trace
+/// is refused ([`trace_of`]), and then the first such was printed, and on `errors` why.
 fn texts_of<R: Files + AllocGlobal, W: Write, E: Write>(
     rt: &R,
     site: &str,
-    trace: &str,
+    trace: TracePath<'_>,
     out: &mut W,
     errors: &mut E,
 ) -> Result<Option<Texts>, LabFault> {
@@ -63,20 +64,6 @@ fn say_no_attempt<E: Write>(path: &str, line: usize, errors: &mut E) -> io::Resu
     )
 }
 
-/// Whether no line of a text is one of an event.
-fn has_no_event(text: &str) -> bool {
-    !text.split('\n').any(|line| line.starts_with("event "))
-}
-
-/// Says that a text has no event, where it has none; answers whether it has none.
-fn say_no_events<E: Write>(path: &str, text: &str, errors: &mut E) -> io::Result<bool> {
-    if !has_no_event(text) {
-        return Ok(false);
-    }
-    writeln!(errors, "{}: no events: is this a trace?", Escaped(path))?;
-    Ok(true)
-}
-
 /// How work ended whose answer is kept in a list, which lacks nothing but memory.
 fn kept_whole(ended: Result<Status, LabFault>) -> Result<Status, LabFault> {
     ended.map_err(|_| LabFault::NoMemory)
@@ -84,11 +71,12 @@ fn kept_whole(ended: Result<Status, LabFault>) -> Result<Status, LabFault> {
 
 /// Takes an undone attempt out of the trace of one file, over the site of another, and prints what stays, as
 /// [`rewind_run`] does of texts; nothing where memory is refused. Files and the site are refused as
-/// [`run_files`](crate::files::run_files) refuses them, and so is a trace with a byte order mark in front.
+/// [`run_files`](crate::files::run_files) refuses them. So is a trace with a byte order mark in front (`line 1`), a text that
+/// is no trace (`no trace`), and a trace that lacks the end which it has to have (`no end`).
 pub fn rewind_files<R: Files + AllocGlobal, W: Write, E: Write>(
     rt: &R,
     site: &str,
-    trace: &str,
+    trace: TracePath<'_>,
     line: usize,
     out: &mut W,
     errors: &mut E,
@@ -102,10 +90,9 @@ pub fn rewind_files<R: Files + AllocGlobal, W: Write, E: Write>(
     let status = kept_whole(ended)?;
     out.write_all(&answer)?;
     if status == Status::Refused
-        && !say_refused(alloc, site, trace, &texts, "rewind", errors)?
-        && !say_no_events(trace, &texts.trace, errors)?
+        && !say_refused(alloc, site, trace.path, &texts, "rewind", errors)?
     {
-        say_no_attempt(trace, line, errors)?;
+        say_no_attempt(trace.path, line, errors)?;
     }
     Ok(status)
 }
@@ -117,12 +104,12 @@ struct SidesTexts {
     trace: String,
 }
 
-/// The texts of the sites' files and of a trace's, of which those of the sites are read first; nothing where one can't be
-/// read, and then the path of the first such was printed, and on `errors` why.
+/// The texts of the sites' files and of a trace's, of which those of the sites are read first; nothing where one can't be read or
+/// the trace is refused ([`trace_of`]), and then the first such was printed, and on `errors` why.
 fn sides_texts<R: Files + AllocGlobal, W: Write, E: Write>(
     rt: &R,
     sites: SitePaths<'_>,
-    trace: &str,
+    trace: TracePath<'_>,
     out: &mut W,
     errors: &mut E,
 ) -> Result<Option<SidesTexts>, LabFault> {
@@ -185,20 +172,12 @@ fn say_refused_sides<E: Write>(
     }
 }
 
-/// Whether no line of a text is one of an event, of one controller or of two.
-fn has_no_event_of_any(text: &str) -> bool {
-    !text.split('\n').any(|line| line.starts_with("event ")
-        || line.starts_with("1: event ")
-        || line.starts_with("2: event "))
-}
-
 /// Takes each undone attempt out of the trace of one file by itself, over the sites of others, and prints a line for each, as
-/// [`list_run`] does of texts; nothing where memory is refused. Files and sites are refused as
-/// [`run_files`](crate::files::run_files) refuses them, and so is a trace with a byte order mark in front.
+/// [`list_run`] does of texts; nothing where memory is refused. Files and sites are refused as by [`rewind_files`].
 pub fn rewind_all_files<R: Files + AllocGlobal, W: Write, E: Write>(
     rt: &R,
     sites: SitePaths<'_>,
-    trace: &str,
+    trace: TracePath<'_>,
     out: &mut W,
     errors: &mut E,
 ) -> Result<Status, LabFault> {
@@ -212,20 +191,17 @@ pub fn rewind_all_files<R: Files + AllocGlobal, W: Write, E: Write>(
     let status = kept_whole(ended)?;
     out.write_all(&answer)?;
     if status == Status::Refused {
-        let _ = say_refused_sides(alloc, sites, trace, &texts, errors)?;
-    } else if has_no_event_of_any(&texts.trace) {
-        writeln!(errors, "{}: no events: is this a trace?", Escaped(trace))?;
+        let _ = say_refused_sides(alloc, sites, trace.path, &texts, errors)?;
     }
     Ok(status)
 }
 
 /// Takes all settled attempts out of the trace of one file, over the site of another, and prints what that comes to, as
-/// [`audit_run`] does of texts; nothing where memory is refused. Files and the site are refused as
-/// [`run_files`](crate::files::run_files) refuses them, and so is a trace with a byte order mark in front.
+/// [`audit_run`] does of texts; nothing where memory is refused. Files and the site are refused as by [`rewind_files`].
 pub fn audit_files<R: Files + AllocGlobal, W: Write, E: Write>(
     rt: &R,
     site: &str,
-    trace: &str,
+    trace: TracePath<'_>,
     out: &mut W,
     errors: &mut E,
 ) -> Result<Status, LabFault> {
@@ -238,9 +214,7 @@ pub fn audit_files<R: Files + AllocGlobal, W: Write, E: Write>(
     let status = kept_whole(ended)?;
     out.write_all(&answer)?;
     if status == Status::Refused {
-        let _ = say_refused(alloc, site, trace, &texts, "audit", errors)?;
-    } else {
-        let _ = say_no_events(trace, &texts.trace, errors)?;
+        let _ = say_refused(alloc, site, trace.path, &texts, "audit", errors)?;
     }
     Ok(status)
 }

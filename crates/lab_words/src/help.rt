@@ -137,7 +137,8 @@ Comments behind a script line say what it gives. #> and a line of the trace: the
 lines, but that in .. may be left out; messages may stand in words, with some of their fields; #> ..
 stands for any lines, or none. #! and a text: no line begins so, or is so in words. #= and trx,
 channels, call, calls or references: what the books hold then. Behind the last line the trace's end
-may be expected, too. #% site PATH names the site of a script, #% peer PATH its peer's.
+may be expected, too. #% site PATH names the site of a script, #% peer PATH its peer's. The first
+word is the site of those that name none, where it ends in .toml.
 
 With --undo-everywhere these comments are passed over. Behind each input, answers of simulators too,
 each attempt at handover that is open there is undone by an operator, in a run of its own, and taken
@@ -158,8 +159,8 @@ As in: bsc_lab test site.toml one.txt another.txt"
 pub(crate) const RECORD_HELP: &str = with_script_lines!(
     "\
 Comments that begin with #> are written anew, with --states those with #= too; all else stays as it
-is. SITE is what the script is run over, also where it names another (#% site). Write to another
-file than SCRIPT: a shell empties that first.
+is. SITE is what the script is run over, also where it names another (#% site). Without SITE it is
+run over what it names. Write to another file than SCRIPT: a shell empties that first.
 
 ",
     "
@@ -187,7 +188,8 @@ pub(crate) const CHECK_HELP: &str = "\
 Prints a line for each own cell, one for each cell of others, and a warning for each key that is
 ignored, neighbour carrier that no other cell has, cell without neighbours, and neighbour
 of which the cell is none. A neighbour stands with its position and code, as n of a
-MEASUREMENT REPORT has them.
+MEASUREMENT REPORT has them. With --peer there is one for each cell of others that the peer lacks,
+or has with another carrier or other colour codes.
 
 Statuses: 0 the site can be read, 2 the file or the site is refused, 3 memory was refused.
 
@@ -202,8 +204,10 @@ replies are the same then, or what differs first. With --all these stand in one 
 attempt, behind the line in which it opened, its call, its kind and its stage; others are the lines
 of events then.
 
-Statuses: 0 they are, 1 they differ, 2 a file, the site or a line of the trace is refused, or no
-undone attempt opens in the line, 3 memory was refused.
+A trace that has no end, as one that was cut, is refused, but with --cut.
+
+Statuses: 0 they are, 1 they differ, 2 a file, the site or a line of the trace is refused, the trace
+has no end, or no undone attempt opens in the line, 3 memory was refused.
 
 As in: bsc_lab rewind site.toml run.trace 8";
 
@@ -214,8 +218,10 @@ first event that was refused for the sake of one of them (held), the lines in wh
 would have been chosen without all of them, or one (choices), and whether the book and the replies
 are the same then, or what differs first.
 
-Statuses: 0 they are, 1 they differ, 2 a file, the site or a line of the trace is refused, 3 memory
-was refused.
+A trace that has no end, as one that was cut, is refused, but with --cut.
+
+Statuses: 0 they are, 1 they differ, 2 a file, the site or a line of the trace is refused, or the
+trace has no end, 3 memory was refused.
 
 As in: bsc_lab audit site.toml run.trace";
 
@@ -226,7 +232,10 @@ opened and cleared, attempts at handover that began, were completed, or were und
 often no channel was free, faults, and messages in and out by their names. With --json they are one
 object in one line.
 
-Statuses: 0 they were counted, 2 the file or a line of the trace is refused, 3 memory was refused.
+A trace that has no end, as one that was cut, is refused, but with --cut.
+
+Statuses: 0 they were counted, 2 the file or a line of the trace is refused, or the trace has no
+end, 3 memory was refused.
 
 As in: bsc_lab summary run.trace";
 

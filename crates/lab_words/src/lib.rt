@@ -9,11 +9,14 @@ mod rows;
 mod script_words;
 mod site_paths;
 mod storm_words;
+mod trace_paths;
+mod trace_words;
 mod view_words;
 mod words;
 
 pub use journal_words::JournalWords;
-pub use site_paths::SitePaths;
+pub use site_paths::{GivenPaths, SitePaths};
 pub use storm_words::StormSize;
+pub use trace_paths::{TraceEnd, TracePath};
 pub use view_words::Ending;
 pub use words::{Job, WordsFault, read_words};

@@ -1,25 +1,30 @@
 //! The words of the commands that test and record scripts.
 use crate::help::{RECORD_HELP, TEST_HELP};
 use crate::rows::{ArgumentRow, CommandRow, Form, Rule, TEXT, command};
-use crate::site_paths::SitePaths;
-use crate::words::{PEER, SCRIPT, SITE};
+use crate::site_paths::{GivenPaths, SitePaths};
+use crate::words::PEER;
 use clap::{ArgMatches, Command};
 use expectations::Recording;
 use screen_text::Escaped;
 use std::alloc::{AllocError, Global};
 
-/// `test SITE SCRIPT.. [--peer SITE] [-k TEXT] [--undo-everywhere]`
+/// `test [SITE] SCRIPT.. [--peer SITE] [-k TEXT] [--junit FILE] [--undo-everywhere]`
 const TEST: CommandRow = CommandRow {
     name: "test",
     about: "Runs scripts, and says which print what their comments expect (TAP)",
     after_help: TEST_HELP,
     arguments: &[
-        SITE,
+        ArgumentRow {
+            name: "SITE",
+            form: Form::Placed(TEXT),
+            help: "The site file (.toml); it may be left out where scripts name their own",
+            rules: &[Rule::Required],
+        },
         ArgumentRow {
             name: "SCRIPT",
             form: Form::Several,
             help: "The script files",
-            rules: &[Rule::Required],
+            rules: &[],
         },
         PEER,
         ArgumentRow {
@@ -27,6 +32,12 @@ const TEST: CommandRow = CommandRow {
             form: Form::Lettered('k', "TEXT", TEXT),
             help: "Takes those scripts alone whose path has this text",
             rules: &[],
+        },
+        ArgumentRow {
+            name: "report",
+            form: Form::Valued("junit", "FILE", TEXT),
+            help: "Writes what came of each script to this file, in the form of JUnit",
+            rules: &[Rule::Excludes("everywhere")],
         },
         ArgumentRow {
             name: "everywhere",
@@ -39,17 +50,18 @@ const TEST: CommandRow = CommandRow {
 
 /// The command `test`.
 pub(crate) fn test_command<'a>(alloc: Global) -> Result<Command<'a>, AllocError> {
-    command(alloc, &TEST)
+    let command = command(alloc, &TEST)?;
+    Ok(command.override_usage("bsc_lab test [OPTIONS] [SITE] <SCRIPT>..."))
 }
 
-/// `record SITE SCRIPT [--peer SITE] [--words] [--states]`
+/// `record [SITE] SCRIPT [--peer SITE] [--words] [--states]`
 const RECORD: CommandRow = CommandRow {
     name: "record",
     about: "Runs a script and prints it with comments that expect what came of each line",
     after_help: RECORD_HELP,
     arguments: &[
-        SITE,
-        SCRIPT,
+        FIRST,
+        SECOND,
         PEER,
         ArgumentRow {
             name: "words",
@@ -68,12 +80,18 @@ const RECORD: CommandRow = CommandRow {
 
 /// The command `record`.
 pub(crate) fn record_command<'a>(alloc: Global) -> Result<Command<'a>, AllocError> {
-    command(alloc, &RECORD)
+    let command = command(alloc, &RECORD)?;
+    Ok(command.override_usage("bsc_lab record [OPTIONS] [SITE] <SCRIPT>"))
 }
 
 /// Whether each attempt is to be taken back at each point.
 pub(crate) fn is_everywhere(test: &ArgMatches<'_>) -> bool {
     test.get_flag("everywhere")
+}
+
+/// The file that a report of the tests is to be written to.
+pub(crate) fn report_of<'a>(test: &ArgMatches<'a>) -> Option<&'a str> {
+    test.get_str("report")
 }
 
 /// How a script is to be recorded.
@@ -92,13 +110,64 @@ pub(crate) fn site_paths<'a>(matches: &ArgMatches<'a>) -> Option<SitePaths<'a>> 
     })
 }
 
-/// The paths of the scripts, with `-k TEXT` of those that have this text.
+/// The first word of `run` and `record`: the site, or alone the script.
+pub(crate) const FIRST: ArgumentRow = ArgumentRow {
+    name: "SITE",
+    form: Form::Placed(TEXT),
+    help: "The site file; it may be left out where the script names its own (#% site)",
+    rules: &[Rule::Required],
+};
+
+/// The second word of `run` and `record`: the script.
+pub(crate) const SECOND: ArgumentRow = ArgumentRow {
+    name: "SCRIPT",
+    form: Form::Placed(TEXT),
+    help: "The script file",
+    rules: &[],
+};
+
+/// Whether a path is taken for a site's where one may be left out.
+fn is_site(path: &str) -> bool {
+    path.ends_with(".toml")
+}
+
+/// The script that the words of `run` or `record` name, and the sites that are given for it; `None` where they name a site
+/// alone.
+pub(crate) fn named_script<'a>(matches: &ArgMatches<'a>) -> Option<(GivenPaths<'a>, &'a str)> {
+    let first = matches.get_str("SITE")?;
+    let peer = matches.get_str("PEER");
+    match matches.get_str("SCRIPT") {
+        Some(script) => {
+            let first = Some(first);
+            Some((GivenPaths { first, peer }, script))
+        }
+        None if is_site(first) => None,
+        None => Some((GivenPaths { first: None, peer }, first)),
+    }
+}
+
+/// The sites that the words of `test` give for scripts.
+pub(crate) fn given_paths<'a>(matches: &ArgMatches<'a>) -> GivenPaths<'a> {
+    GivenPaths {
+        first: matches.get_str("SITE").filter(|path| is_site(*path)),
+        peer: matches.get_str("PEER"),
+    }
+}
+
+/// The paths of the scripts that the words of `test` name, with `-k TEXT` of those that have this text: the first word is one,
+/// where it is no site.
 pub(crate) fn script_paths<'a>(
     alloc: Global,
     matches: &ArgMatches<'a>,
 ) -> Result<Vec<&'a str>, AllocError> {
     let text = matches.get_str("only").unwrap_or("");
     let mut paths = Vec::new(alloc);
+    if let Some(first) = matches.get_str("SITE")
+        && !is_site(first)
+        && first.contains(text)
+    {
+        paths.push(first)?;
+    }
     for path in matches.get_strs("SCRIPT").unwrap_or(&[]) {
         if path.contains(text) {
             paths.push(*path)?;
@@ -107,8 +176,19 @@ pub(crate) fn script_paths<'a>(
     Ok(paths)
 }
 
-/// Why words ask for nothing that name scripts, of which none has the text that is asked for.
+/// Why words of `test` ask for nothing that name no script, or none with the text that is asked for.
 pub(crate) fn none_named(alloc: Global, matches: &ArgMatches<'_>) -> Result<String, AllocError> {
-    let text = matches.get_str("only").unwrap_or("");
-    format!(in alloc; "error: no script has {} in its path (-k)", Escaped(text))
+    match matches.get_str("only") {
+        Some(text) => {
+            format!(in alloc; "error: no script has {} in its path (-k)", Escaped(text))
+        }
+        None => lacks_script(alloc, "test"),
+    }
+}
+
+/// Why words of a command ask for nothing that name a site alone.
+pub(crate) fn lacks_script(alloc: Global, command: &str) -> Result<String, AllocError> {
+    format!(in alloc;
+        "error: a script was not provided: <SCRIPT>; Usage: bsc_lab {command} [OPTIONS] [SITE] <SCRIPT>"
+    )
 }

@@ -2,20 +2,22 @@
 ghost use Rattle.std.specs.Prelude.{◌≡◌};
 
 use crate::explain_words::{explain_command, hexadecimal_question, question_of};
-use crate::help::{
-    AUDIT_HELP, CHECK_HELP, DECODE_HELP, ENCODE_HELP, LIVE_HELP, REWIND_HELP, RUN_HELP,
-    SUMMARY_HELP, with_messages,
-};
+use crate::help::{CHECK_HELP, DECODE_HELP, ENCODE_HELP, LIVE_HELP, RUN_HELP, with_messages};
 use crate::journal_words::{JournalWords, entries_of, journal_of, journal_options};
 use crate::refused_words::refused_line;
-use crate::rows::{ArgumentRow, COUNTED, CommandRow, Form, Rule, TEXT, command, with};
+use crate::rows::{ArgumentRow, CommandRow, Form, Rule, TEXT, command, with};
 use crate::script_words::{
-    is_everywhere, none_named, record_command, recording_of, script_paths, site_paths, test_command,
+    FIRST, SECOND, given_paths, is_everywhere, lacks_script, named_script, none_named,
+    record_command, recording_of, report_of, script_paths, site_paths, test_command,
 };
-use crate::site_paths::SitePaths;
+use crate::site_paths::{GivenPaths, SitePaths};
 use crate::storm_words::{StormSize, storm_command, storm_size};
+use crate::trace_paths::TracePath;
+use crate::trace_words::{
+    audit_command, audit_job, rewind_command, rewind_job, summary_command, summary_job,
+};
 use crate::view_words::{
-    Ending, ending_of, form_of, live_view_options, live_views_of, view_options, views_of,
+    Ending, ending_of, live_view_options, live_views_of, view_options, views_of,
 };
 use clap::builder::ValueParser;
 use clap::error::ErrorKind;
@@ -32,7 +34,7 @@ pub enum Job<'a> {
     /// A script is run over a site, or over two where a peer's is named: the paths of the files, what is to be seen of the
     /// run beside its trace, and how it ends.
     Run {
-        sites: SitePaths<'a>,
+        sites: GivenPaths<'a>,
         script: &'a str,
         views: Views<'a>,
         ending: Ending,
@@ -45,41 +47,43 @@ pub enum Job<'a> {
         entries: usize,
         journal: Option<JournalWords<'a>>,
     },
-    /// An undone attempt is taken out of a trace: the paths of the site and of the trace, and the line, counted from 1, in
-    /// which the attempt opens.
+    /// An undone attempt is taken out of a trace: the site's path, the trace, and the line, counted from 1, in which the
+    /// attempt opens.
     Rewind {
         site: &'a str,
-        trace: &'a str,
+        trace: TracePath<'a>,
         line: usize,
     },
-    /// All settled attempts are taken out of a trace: the paths of the site and of the trace.
+    /// All settled attempts are taken out of a trace: the site's path, and the trace.
     Audit {
         site: &'a str,
-        trace: &'a str,
+        trace: TracePath<'a>,
     },
-    /// Each undone attempt is taken out of a trace by itself, of one controller or of two: the paths of the files.
+    /// Each undone attempt is taken out of a trace by itself, of one controller or of two: the paths of the sites, and the
+    /// trace.
     RewindAll {
         sites: SitePaths<'a>,
-        trace: &'a str,
+        trace: TracePath<'a>,
     },
-    /// What a trace came to is printed, counted: the trace's path, and how that is shown.
+    /// What a trace came to is printed, counted: the trace, and how that is shown.
     Summary {
-        trace: &'a str,
+        trace: TracePath<'a>,
         form: SummaryForm,
     },
     /// Each attempt of scripts is taken back at each point, over a site, or over two: the paths of the files.
     TryUndos {
-        sites: SitePaths<'a>,
+        sites: GivenPaths<'a>,
         scripts: Vec<&'a str>,
     },
-    /// Scripts are tested over a site, or over two: the paths of the files.
+    /// Scripts are tested over a site, or over two: the paths of the files, and of the report that is written, if one is.
     Test {
-        sites: SitePaths<'a>,
+        sites: GivenPaths<'a>,
         scripts: Vec<&'a str>,
+        report: Option<&'a str>,
     },
     /// A script is recorded over a site, or over two: the paths of the files, and how what comes is recorded.
     Record {
-        sites: SitePaths<'a>,
+        sites: GivenPaths<'a>,
         script: &'a str,
         recording: Recording,
     },
@@ -88,9 +92,10 @@ pub enum Job<'a> {
         site: &'a str,
         size: StormSize,
     },
-    /// The cells of a site are printed, and what is surely meant otherwise in its file: the file's path.
+    /// The cells of a site are printed, and what is surely meant otherwise in its file, also beside a peer's: the paths of the
+    /// files.
     Check {
-        site: &'a str,
+        sites: SitePaths<'a>,
     },
     /// A message, written in hexadecimal, is printed in words.
     Decode {
@@ -150,14 +155,6 @@ pub(crate) const SITE: ArgumentRow = ArgumentRow {
     rules: &[Rule::Required],
 };
 
-/// `SCRIPT`
-pub(crate) const SCRIPT: ArgumentRow = ArgumentRow {
-    name: "SCRIPT",
-    form: Form::Placed(TEXT),
-    help: "The script file",
-    rules: &[Rule::Required],
-};
-
 /// `--peer SITE`
 pub(crate) const PEER: ArgumentRow = ArgumentRow {
     name: "PEER",
@@ -166,17 +163,21 @@ pub(crate) const PEER: ArgumentRow = ArgumentRow {
     rules: &[],
 };
 
-/// `run SITE SCRIPT [--peer SITE]`
+/// `run [SITE] SCRIPT [--peer SITE]`
 const RUN: CommandRow = CommandRow {
     name: "run",
     about: "Runs a script over a site and prints the trace",
     after_help: RUN_HELP,
-    arguments: &[SITE, SCRIPT, PEER],
+    arguments: &[FIRST, SECOND, PEER],
 };
 
 /// The command `run`, with the views of the run.
 fn run_command<'a>(alloc: Global) -> Result<Command<'a>, AllocError> {
-    view_options(alloc, command(alloc, &RUN)?)
+    let command = command(alloc, &RUN)?;
+    view_options(
+        alloc,
+        command.override_usage("bsc_lab run [OPTIONS] [SITE] <SCRIPT>"),
+    )
 }
 
 /// `live SITE`
@@ -192,99 +193,25 @@ fn live_command<'a>(alloc: Global) -> Result<Command<'a>, AllocError> {
     journal_options(alloc, live_view_options(alloc, command(alloc, &LIVE)?)?)
 }
 
-/// `check SITE`
+/// `check SITE [--peer SITE]`
 const CHECK: CommandRow = CommandRow {
     name: "check",
     about: "Reads a site and prints its cells, and what is surely meant otherwise",
     after_help: CHECK_HELP,
-    arguments: &[SITE],
-};
-
-/// The command `check`.
-fn check_command<'a>(alloc: Global) -> Result<Command<'a>, AllocError> {
-    command(alloc, &CHECK)
-}
-
-/// `rewind SITE TRACE LINE` or `rewind SITE TRACE --all [--peer SITE]`
-const REWIND: CommandRow = CommandRow {
-    name: "rewind",
-    about: "Takes an undone attempt at handover out of a trace, and compares what is left",
-    after_help: REWIND_HELP,
     arguments: &[
         SITE,
-        TRACE,
-        ArgumentRow {
-            name: "LINE",
-            form: Form::Placed(COUNTED),
-            help: "The line in which the attempt opens (event take or event require), counted from 1",
-            rules: &[Rule::Unless("all")],
-        },
-        ArgumentRow {
-            name: "all",
-            form: Form::Flag("all"),
-            help: "Prints a line for each undone attempt, also of two controllers",
-            rules: &[Rule::Excludes("LINE")],
-        },
-        // what is required is passed over where something that excludes it is given, as the line is
         ArgumentRow {
             name: "PEER",
             form: Form::Valued("peer", "SITE", TEXT),
-            help: "The site file of a second controller, for lines of the trace with 2:",
-            rules: &[Rule::Wants("all"), Rule::Excludes("LINE")],
-        },
-    ],
-};
-
-/// The command `rewind`.
-fn rewind_command<'a>(alloc: Global) -> Result<Command<'a>, AllocError> {
-    command(alloc, &REWIND)
-}
-
-/// `TRACE`
-const TRACE: ArgumentRow = ArgumentRow {
-    name: "TRACE",
-    form: Form::Placed(TEXT),
-    help: "The trace, as run prints it from the empty book on",
-    rules: &[Rule::Required],
-};
-
-/// `audit SITE TRACE`
-const AUDIT: CommandRow = CommandRow {
-    name: "audit",
-    about: "Takes all undone attempts at handover out of a trace, and compares what is left",
-    after_help: AUDIT_HELP,
-    arguments: &[SITE, TRACE],
-};
-
-/// The command `audit`.
-fn audit_command<'a>(alloc: Global) -> Result<Command<'a>, AllocError> {
-    command(alloc, &AUDIT)
-}
-
-/// `summary TRACE [--json]`
-const SUMMARY: CommandRow = CommandRow {
-    name: "summary",
-    about: "Prints how many calls, attempts, messages and faults a trace has, by cell",
-    after_help: SUMMARY_HELP,
-    arguments: &[
-        ArgumentRow {
-            name: "TRACE",
-            form: Form::Placed(TEXT),
-            help: "The trace, as run prints it",
-            rules: &[Rule::Required],
-        },
-        ArgumentRow {
-            name: "json",
-            form: Form::Flag("json"),
-            help: "Prints the summary as one JSON object",
+            help: "The site file of a second controller; outside cells are compared with it",
             rules: &[],
         },
     ],
 };
 
-/// The command `summary`.
-fn summary_command<'a>(alloc: Global) -> Result<Command<'a>, AllocError> {
-    command(alloc, &SUMMARY)
+/// The command `check`.
+fn check_command<'a>(alloc: Global) -> Result<Command<'a>, AllocError> {
+    command(alloc, &CHECK)
 }
 
 /// `decode LINK HEX`, `decode LINK --from FILE` or `decode --from FILE`
@@ -433,21 +360,6 @@ pub(crate) fn lab_command<'a>(alloc: Global) -> Result<Command<'a>, AllocError> 
     Ok(command)
 }
 
-/// What the words of `rewind` ask for.
-fn rewind_job<'a>(rewind: &ArgMatches<'a>) -> Option<Job<'a>> {
-    if rewind.get_flag("all") {
-        return Some(Job::RewindAll {
-            sites: site_paths(rewind)?,
-            trace: rewind.get_str("TRACE")?,
-        });
-    }
-    Some(Job::Rewind {
-        site: rewind.get_str("SITE")?,
-        trace: rewind.get_str("TRACE")?,
-        line: rewind.get_one::<usize>("LINE")?,
-    })
-}
-
 /// The job of `decode`.
 fn decode_job<'a>(decode: &ArgMatches<'a>) -> Option<Job<'a>> {
     let link = match decode.get_str("LINK") {
@@ -473,9 +385,10 @@ fn decode_job<'a>(decode: &ArgMatches<'a>) -> Option<Job<'a>> {
 
 /// The job of `run`.
 fn run_job<'a>(run: &ArgMatches<'a>) -> Option<Job<'a>> {
+    let (sites, script) = named_script(run)?;
     Some(Job::Run {
-        sites: site_paths(run)?,
-        script: run.get_str("SCRIPT")?,
+        sites,
+        script,
         views: views_of(run),
         ending: ending_of(run),
     })
@@ -493,26 +406,11 @@ fn live_job<'a>(live: &ArgMatches<'a>) -> Option<Job<'a>> {
 
 /// The job of `record`.
 fn record_job<'a>(record: &ArgMatches<'a>) -> Option<Job<'a>> {
+    let (sites, script) = named_script(record)?;
     Some(Job::Record {
-        sites: site_paths(record)?,
-        script: record.get_str("SCRIPT")?,
+        sites,
+        script,
         recording: recording_of(record),
-    })
-}
-
-/// The job of `audit`.
-fn audit_job<'a>(audit: &ArgMatches<'a>) -> Option<Job<'a>> {
-    Some(Job::Audit {
-        site: audit.get_str("SITE")?,
-        trace: audit.get_str("TRACE")?,
-    })
-}
-
-/// The job of `summary`.
-fn summary_job<'a>(summary: &ArgMatches<'a>) -> Option<Job<'a>> {
-    Some(Job::Summary {
-        trace: summary.get_str("TRACE")?,
-        form: form_of(summary),
     })
 }
 
@@ -527,7 +425,7 @@ fn storm_job<'a>(storm: &ArgMatches<'a>) -> Option<Job<'a>> {
 /// The job of `check`.
 fn check_job<'a>(check: &ArgMatches<'a>) -> Option<Job<'a>> {
     Some(Job::Check {
-        site: check.get_str("SITE")?,
+        sites: site_paths(check)?,
     })
 }
 
@@ -555,26 +453,36 @@ fn job_of<'a>(matches: &ArgMatches<'a>) -> Option<Job<'a>> {
 }
 
 /// The job of `test`, of which scripts may be many.
-fn test_job<'a>(alloc: Global, test: &ArgMatches<'a>) -> Result<Option<Job<'a>>, WordsFault> {
-    let Some(sites) = site_paths(test) else {
-        return Ok(None);
-    };
+fn test_job<'a>(alloc: Global, test: &ArgMatches<'a>) -> Result<Job<'a>, WordsFault> {
+    let sites = given_paths(test);
     let scripts = script_paths(alloc, test)?;
     if scripts.is_empty() {
         return Err(WordsFault::Refused(none_named(alloc, test)?));
     }
-    Ok(Some(if is_everywhere(test) {
+    Ok(if is_everywhere(test) {
         Job::TryUndos { sites, scripts }
     } else {
-        Job::Test { sites, scripts }
-    }))
+        Job::Test {
+            sites,
+            scripts,
+            report: report_of(test),
+        }
+    })
 }
 
 /// The job of a command line that was read.
-fn any_job_of<'a>(alloc: Global, matches: &ArgMatches<'a>) -> Result<Option<Job<'a>>, WordsFault> {
+fn any_job_of<'a>(alloc: Global, matches: &ArgMatches<'a>) -> Result<Job<'a>, WordsFault> {
     match matches.subcommand() {
         Some(("test", test)) => test_job(alloc, test),
-        _ => Ok(job_of(matches)),
+        Some((name, _)) => match job_of(matches) {
+            Some(job) => Ok(job),
+            // all else that a command lacks clap says
+            None => Err(WordsFault::Refused(lacks_script(alloc, name)?)),
+        },
+        None => Err(WordsFault::Refused(String::from_str(
+            alloc,
+            "error: the words ask for nothing",
+        )?)),
     }
 }
 
@@ -598,13 +506,7 @@ pub fn read_words<'a>(alloc: Global, words: &'a [&'a str]) -> Result<Job<'a>, Wo
         return Ok(Job::Explain(question));
     }
     match lab_command(alloc)?.try_get_matches_from(words) {
-        Ok(matches) => match any_job_of(alloc, &matches)? {
-            Some(job) => Ok(job),
-            None => Err(WordsFault::Refused(String::from_str(
-                alloc,
-                "error: the words ask for nothing",
-            )?)),
-        },
+        Ok(matches) => any_job_of(alloc, &matches),
         Err(error) => unmatched(alloc, words, error),
     }
 }

@@ -4,10 +4,12 @@
 
 mod cells;
 mod document;
+mod peer;
 mod reason;
 mod warnings;
 
 pub use cells::print_cells;
 pub use document::{Place, entries};
+pub use peer::print_peer_warnings;
 pub use reason::say_reason;
 pub use warnings::print_warnings;
