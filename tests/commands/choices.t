@@ -35,10 +35,10 @@ None was free, because the attempt of call 1 had the channel; without it call 2 
 So it is of a trace that was cut, or is still written, within what came of its last line; also within that line.
 
   $ { head -n 19 none.trace; echo 'in open 3 0 0 2'; } >cut.trace
-  $ ./lab audit examples/two_cells.toml cut.trace | grep choices
+  $ ./lab audit examples/two_cells.toml cut.trace --cut | grep choices
   choices 14
   $ { cat cut.trace; printf 'event open 3 0/0/2 -> done\nin clea'; } >within.trace
-  $ ./lab rewind examples/two_cells.toml within.trace 9 | grep choices
+  $ ./lab rewind examples/two_cells.toml within.trace 9 --cut | grep choices
   choices 14
 
 Of a trace that lacks a line `none free`, or has other events than come of its lines `in`, nothing else is known than which events

@@ -20,7 +20,7 @@ A field with another value, another name, another place. What came is shown in w
   $ sed 's/CHANNEL ACTIVATION tn=3/CHANNEL ACTIVATION tn=2/' script.txt >tn.txt
   $ sed 's/CHANNEL ACTIVATION tn=3/CHANNEL tn=3/' script.txt >name.txt
   $ sed 's/out abis 0 0/out abis 0 1/' script.txt >place.txt
-  $ ./lab test examples/two_cells.toml tn.txt name.txt place.txt
+  $ ./lab test examples/two_cells.toml tn.txt name.txt place.txt 2>/dev/null
   1..3
   not ok 1 - tn.txt
   # line 3
@@ -29,11 +29,11 @@ A field with another value, another name, another place. What came is shown in w
   not ok 2 - name.txt
   # line 3
   # expected: out abis 0 0 CHANNEL tn=3
-  # came: out abis 0 0 CHANNEL ACTIVATION tn=3 activation=0 mode=00010801 reference=-
+  # came: "CHANNEL" is no message of the link
   not ok 3 - place.txt
   # line 3
   # expected: out abis 0 1 CHANNEL ACTIVATION tn=3
-  # came: out abis 0 0 CHANNEL ACTIVATION tn=3 activation=0 mode=00010801 reference=-
+  # came: the site has no such cell or carrier
   [1]
 
 The message inside another stands behind a semicolon, as in the words of a run; so does the name of a cause. Each may be
@@ -65,12 +65,12 @@ left out.
 A field stands in a message once, so an expectation that has it twice isn't met; of a report `n` may stand as often as there.
 
   $ printf 'open 1 0 0 3\n#> event open 1 0/0/3 -> done\n#> out abis 0 0 CHANNEL ACTIVATION tn=3 tn=3\n' >twice.txt
-  $ ./lab test examples/two_cells.toml twice.txt
+  $ ./lab test examples/two_cells.toml twice.txt 2>/dev/null
   1..1
   not ok 1 - twice.txt
   # line 3
   # expected: out abis 0 0 CHANNEL ACTIVATION tn=3 tn=3
-  # came: out abis 0 0 CHANNEL ACTIVATION tn=3 activation=0 mode=00010801 reference=-
+  # came: tn stands twice
   [1]
   $ report='MEASUREMENT REPORT ba=0 dtx=0 full=30 ba3g=0 valid=1 sub=30 si23=0 qfull=0 qsub=0 count=2 n=20/1/21 n=20/1/21'
   $ octets=$(./lab encode rr "$report")
@@ -84,12 +84,12 @@ A field stands in a message once, so an expectation that has it twice isn't met;
 Other lines have no words: of them all has to be said.
 
   $ printf 'open 1 0 0 3\n#> ..\n#> end channels=1\n' >script.txt
-  $ ./lab test examples/two_cells.toml script.txt
+  $ ./lab test examples/two_cells.toml script.txt 2>/dev/null
   1..1
   not ok 1 - script.txt
   # line 3
   # expected: end channels=1
-  # came: end channels=1 calls=1 references=0 timers=0
+  # came: no line of a trace is so
   [1]
 
 No line begins so.
@@ -108,7 +108,7 @@ No line begins so.
   not ok 1 - script.txt
   # line 6
   # expected none that begins with: out abis 0 0 RF CHANNEL RELEASE
-  # came: out abis 0 0 082e010b
+  # came: out abis 0 0 RF CHANNEL RELEASE tn=3
   # line 7
   # expected none that begins with: event look
   # came: event look 1 -> record 0/0/3 pending
@@ -136,10 +136,10 @@ Nor is one so in words, as `#>` takes them: with other fields between, in anothe
   not ok 1 - script.txt
   # line 3
   # expected none that begins with: out abis 0 0 CHANNEL ACTIVATION mode=00010801 tn=3
-  # came: out abis 0 0 0821010b0300060400010801
+  # came: out abis 0 0 CHANNEL ACTIVATION tn=3 activation=0 mode=00010801 reference=-
   # line 7
   # expected none that begins with: out abis 0 0 DATA REQUEST; HANDOVER COMMAND carrier=875
-  # came: out abis 0 0 0301010b02000b0009062bd5670ba36b0005
+  # came: out abis 0 0 DATA REQUEST tn=3 link=0 layer3=062bd5670ba36b0005; HANDOVER COMMAND arfcn=871 ncc=2 bcc=5 tn=3 tsc=5 carrier=875 reference=0 atc=0 power=5
   [1]
 
 It is of all that comes up to the next line: what simulators answer, and at the end of the script the trace's end.
@@ -156,7 +156,7 @@ It is of all that comes up to the next line: what simulators answer, and at the 
   # came: end channels=0 calls=0 references=0 timers=0
   # line 6
   # expected none that begins with: in abis 0 0 RF CHANNEL RELEASE ACK
-  # came: in abis 0 0 0833010b
+  # came: in abis 0 0 RF CHANNEL RELEASE ACK tn=3
   [1]
 
 A text that no line can begin with, nor be in words, would never be missed: it isn't met, and standard error says so, too.
@@ -231,38 +231,42 @@ So is a message that controllers don't send. (`in` may have any: a line may give
   > #! out abis 0 0 CHANNEL ACTIVATION NACK
   > #! out a 1 CLEAR COMMAND
   > #! out a 1 CLEAR CO
-  > #! out abis 0 1 CHANNEL ACTI
-  > #! out abis 0 1 MEASUREMENT RESULT tn=3
-  > #! out abis 0 1 CHANNEL REQUIRED
+  > #! out abis 1 1 CHANNEL ACTI
+  > #! out abis 1 1 MEASUREMENT RESULT tn=3
+  > #! out abis 1 1 CHANNEL REQUIRED
   > #! in abis 0 0 CHANNEL ACTIVATION NACK
-  > #! out abis 0 1 CHANNEL ACTIVATION t
+  > #! out abis 1 1 CHANNEL ACTIVATION t
   > #! out a 1 HANDOVER FAILURE cau
   > END
   $ ./lab test examples/two_cells.toml script.txt 2>&1 >/dev/null
   script.txt:2: never missed: controllers send no "CHANNEL ACTIVATION NACK"
   script.txt:3: never missed: controllers send no "CLEAR COMMAND"
+  script.txt:4: never missed: "CLEAR CO" is no message of the link
+  script.txt:5: never missed: "CHANNEL ACTI" is no message of the link
   script.txt:6: never missed: controllers send no "MEASUREMENT RESULT"
   script.txt:7: never missed: controllers send no "CHANNEL REQUIRED"
+  script.txt:9: never missed: "CHANNEL ACTIVATION t" is no message of the link
+  script.txt:10: never missed: "HANDOVER FAILURE cau" is no message of the link
   [1]
 
-So is a value that no message is printed with. A text may end within one.
+So is a value that no message is printed with. A text ends at a word's end: of octets it may have the first ones.
 
   $ cat >script.txt <<'END'
   > open 1 0 0 3
-  > #! out abis 0 1 CHANNEL ACTIVATION tn=03
-  > #! out abis 0 1 CHANNEL ACTIVATION reference=256
-  > #! out abis 0 1 CHANNEL ACTIVATION tn=3/2 activation=2
-  > #! out abis 0 1 CHANNEL ACTIVATION mode=0A
-  > #! out abis 0 1 DATA REQUEST tn=3 layer3=06280; HANDOVER COMMAND
-  > #! out abis 0 1 DATA REQUEST; HANDOVER COMMAND atc=2
+  > #! out abis 1 1 CHANNEL ACTIVATION tn=03
+  > #! out abis 1 1 CHANNEL ACTIVATION reference=256
+  > #! out abis 1 1 CHANNEL ACTIVATION tn=3/2 activation=2
+  > #! out abis 1 1 CHANNEL ACTIVATION mode=0A
+  > #! out abis 1 1 DATA REQUEST tn=3 layer3=06280; HANDOVER COMMAND
+  > #! out abis 1 1 DATA REQUEST; HANDOVER COMMAND atc=2
   > #! out a 1 HANDOVER PERFORMED cell=23
   > #! out a 1 HANDOVER REQUIRED cells=23/102;23/103
   > #! in abis 0 0 MEASUREMENT RESULT; MEASUREMENT REPORT n=40/2
   > #! in abis 0 0 CHANNEL ACTIVATION ACK frame=
-  > #! out abis 0 1 CHANNEL ACTIVATION tn=3/
-  > #! out abis 0 1 CHANNEL ACTIVATION tn=
-  > #! out abis 0 1 CHANNEL ACTIVATION reference=-
-  > #! out abis 0 1 DATA REQUEST tn=3 link=0 layer3=06280
+  > #! out abis 1 1 CHANNEL ACTIVATION tn=3/
+  > #! out abis 1 1 CHANNEL ACTIVATION tn=
+  > #! out abis 1 1 CHANNEL ACTIVATION reference=-
+  > #! out abis 1 1 DATA REQUEST tn=3 link=0 layer3=06280
   > #! out a 1 HANDOVER PERFORMED cause=12 cell=23
   > #! out a 1 HANDOVER PERFORMED cell=-/5
   > #! out a 1 HANDOVER REQUIRED cells=
@@ -280,6 +284,10 @@ So is a value that no message is printed with. A text may end within one.
   script.txt:9: never missed: a blank stands behind ;
   script.txt:10: never missed: n is a level 0 to 63, a position 0 to 31 and a code 0 to 63, as in 40/2/21, found "40/2"
   script.txt:11: never missed: frame is 0 to 65535, found ""
+  script.txt:12: never missed: tn is 0 to 7, with /0 or /1 behind it for half rate, found "3/"
+  script.txt:13: never missed: tn is 0 to 7, with /0 or /1 behind it for half rate, found ""
+  script.txt:15: never missed: layer3 is one octet or more in hexadecimal, found "06280"
+  script.txt:16: never missed: cell is a cell with its location area, as in 23/102, found "23"
   [1]
 
 What the switching centre gives a controller for a mobile it sends on, so that may be any message. A script without lines has an
@@ -288,7 +296,7 @@ end.
   $ printf 'open 1 0 0 3\nanswer 1 ack\nhandover 1 64\na 1 HANDOVER COMMAND layer3=062c00\n' >passed_on.txt
   $ printf '#! out abis 0 0 DATA REQUEST; HANDOVER COMPLETE\n' >>passed_on.txt
   $ ./lab test examples/two_cells.toml passed_on.txt | tail -n 1
-  # came: out abis 0 0 0301010b02000b0003062c00
+  # came: out abis 0 0 DATA REQUEST tn=3 link=0 layer3=062c00; HANDOVER COMPLETE cause=0; normal event
   $ ./lab test examples/two_cells.toml passed_on.txt 2>&1 >/dev/null
   [1]
   $ printf '#! end channels=1\n' >no_lines.txt
@@ -312,7 +320,7 @@ So is what doesn't stand behind such a message, and what comes of a line of whic
   > #! in abis 0 0 CHANNEL ACTIVATION NACK; radio resource not available
   > #! in abis 0 0 DATA INDICATION; HANDOVER FAILURE; protocol error unspecified
   > #! out a 1 HANDOVER FAILURE; radio interface message failure; protocol error unspecified
-  > #! out abis 0 1 CHANNEL ACTIVATION 
+  > #! out abis 1 1 CHANNEL ACTIVATION 
   > hold 1 1 3
   > #! out abis 1 1 CHANNEL ACTIVATION
   > handover 1 1
@@ -332,50 +340,263 @@ So is what doesn't stand behind such a message, and what comes of a line of whic
   script.txt:16: never missed: nothing ever comes of the line before it
   [1]
 
-What else isn't met stands behind these; a script that can't be read is refused all the same.
+What else isn't met stands among these, in the order of the lines; a script that can't be read is refused all the same.
 
   $ printf 'open 1 0 0 3\n#! out a 1\n#! out abis\n#! ot a\n' >script.txt
   $ ./lab test examples/two_cells.toml script.txt 2>/dev/null
   1..1
   not ok 1 - script.txt
+  # line 3
+  # expected none that begins with: out abis
+  # came: out abis 0 0 CHANNEL ACTIVATION tn=3 activation=0 mode=00010801 reference=-
   # line 4
   # expected none that begins with: ot a
   # came: no line of a trace begins so
-  # line 3
-  # expected none that begins with: out abis
-  # came: out abis 0 0 0821010b0300060400010801
   [1]
   $ sed '1i sim 2' script.txt >unread.txt
-  $ ./lab test examples/two_cells.toml unread.txt 2>errors | tail -n 1
+  $ ./lab test examples/two_cells.toml unread.txt 2>errors | sed -n 3p
   # line 1 can't be read
   $ tail -n 1 errors
   unread.txt:1: nothing stands behind sim, found 2
 
-A line can begin so: it may end within a word, or a message may be in part.
+A line can begin so: the text ends behind a word or between octets, or a message may be in part.
 
   $ cat >script.txt <<'END'
   > seize 1 0 full
-  > #! in ope
-  > #! event t
-  > #! event take 1 internal 1/
+  > #! in open
+  > #! event take
+  > #! event take 1 internal 1/0/3
+  > #! event take 1 internal 1/*/* -> done
   > #! event open 1 0/0/3 -> refused
-  > #! event confirm 0/0/3 -> own
-  > #! event undo 1 asked -> record 0/0/3 on outgoing req
+  > #! event confirm 0/0/3 -> owned
+  > #! event undo 1 asked -> record 0/0/3 on outgoing required
   > #! none
   > #! fault abis 3 26
   > #! end channels=0
-  > #! out abis 1 0 CHANNEL ACTI
-  > #! out abis 0 0 CHANNEL ACTIVATION tn=7 act
+  > #! out abis 1 0 CHANNEL
+  > #! out abis * * CHANNEL ACTIVATION tn=*/*
+  > #! out abis 0 0 CHANNEL ACTIVATION tn=7
   > #! out abis 0 0 CHANNEL ACTIVATION reference=7 tn=3
   > #! out abis 0 0 0820
   > #! out a 1 HANDOVER REQUIRED; better cell
-  > #! in a 1 CLEAR COMMAND cause=9; call
+  > #! in a 1 CLEAR COMMAND cause=9; call control
   > #! in abis 0 0 ERROR INDICATION; ignored: no row
   > #! in abis 0 0 MEASUREMENT RESULT; MEASUREMENT REPORT n=20/1/21 n=20/1/21
   > END
   $ ./lab test examples/two_cells.toml script.txt
   1..1
   ok 1 - script.txt
+
+A text that ends within a word begins no line.
+
+  $ cat >script.txt <<'END'
+  > open 1 0 0 3
+  > #! in ope
+  > #! event t
+  > #! event take 1 internal 1/
+  > #! event confirm 0/0/3 -> own
+  > #! out abis 0 0 CHANNEL ACTIVATION tn=7 act
+  > #! out abis 0 0 082
+  > #! out abis 9 9 0821
+  > #! out abis 9 9 CHANNEL ACTIVATION tn=3
+  > END
+  $ ./lab test examples/two_cells.toml script.txt 2>&1 >/dev/null
+  script.txt:2: never missed: no line of a trace begins so
+  script.txt:3: never missed: no line of a trace begins so
+  script.txt:4: never missed: no line of a trace begins so
+  script.txt:5: never missed: no line of a trace begins so
+  script.txt:6: never missed: "act" is no field of the message
+  script.txt:7: never missed: an octet has two digits
+  script.txt:8: never missed: the site has no such cell or carrier
+  script.txt:9: never missed: the site has no such cell or carrier
+  [1]
+
+So it means whole words: link A isn't Abis, call 1 isn't call 12, timeslot 2 isn't 2/0. Octets may be the first ones.
+
+  $ cat >whole.txt <<'END'
+  > seize 12 0 half
+  > #! out a
+  > #! event open 1
+  > #! in seize 1
+  > #! out abis 0 0 CHANNEL ACTIVATION tn=3
+  > #! out abis 0 0 CHANNEL ACTIVATION activation=0 mode=0002 tn=3/0
+  > #= channels 0/0/3/0
+  > END
+  $ ./lab test examples/half_rate.toml whole.txt
+  1..1
+  ok 1 - whole.txt
+  $ cat >octets.txt <<'END'
+  > open 1 0 0 3
+  > #! out abis 0 0 0821
+  > #! out abis 0 0 CHANNEL ACTIVATION tn=3 activation=0 mode=0001
+  > #! out abis 0 0 CHANNEL ACTIVATION tn=3 activation=0 mode=0002
+  > #! out abis 0 0 0822
+  > END
+  $ ./lab test examples/two_cells.toml octets.txt
+  1..1
+  not ok 1 - octets.txt
+  # line 2
+  # expected none that begins with: out abis 0 0 0821
+  # came: out abis 0 0 0821010b0300060400010801
+  # line 3
+  # expected none that begins with: out abis 0 0 CHANNEL ACTIVATION tn=3 activation=0 mode=0001
+  # came: out abis 0 0 CHANNEL ACTIVATION tn=3 activation=0 mode=00010801 reference=-
+  [1]
+
+A line that is expected and that nothing can be is told before the run, too.
+
+  $ cat >script.txt <<'END'
+  > #> event open 1 0/0/3 -> done
+  > open 1 0 0 3
+  > #> ..
+  > #> out abis 0 0 CHANEL ACTIVATION tn=3
+  > #> out abis 0 0 CHANNEL ACTIVATION timeslot=3
+  > #> out abis 0 0 CHANNEL ACTIVATION tn=9
+  > #> out a 1 CHANNEL ACTIVATION
+  > #> out abis 0 0 MEASUREMENT RESULT tn=3
+  > #> out abis 4 0 CHANNEL ACTIVATION
+  > #> out abis 0 0 CHANNEL
+  > #> out abis 0 0 082
+  > #> event open 1 0/0/3
+  > #> event open 1 0/0/3 -> owned 1
+  > #> 1: event open 1 0/0/3 -> done
+  > #> end channels=1 calls=1 references=0 timers=0
+  > clear 1
+  > #> event clear 1 -> done
+  > #> ..
+  > END
+  $ ./lab test examples/two_cells.toml script.txt 2>&1 >/dev/null
+  script.txt:1: never met: no line stands before it
+  script.txt:4: never met: "CHANEL ACTIVATION" is no message of the link
+  script.txt:5: never met: "timeslot=3" is no field of the message
+  script.txt:6: never met: tn is 0 to 7, with /0 or /1 behind it for half rate, found "9"
+  script.txt:7: never met: "CHANNEL ACTIVATION" is no message of the link
+  script.txt:8: never met: controllers send no "MEASUREMENT RESULT"
+  script.txt:9: never met: the site has no such cell or carrier
+  script.txt:10: never met: "CHANNEL" is no message of the link
+  script.txt:11: never met: an octet has two digits
+  script.txt:12: never met: no line of a trace is so
+  script.txt:13: never met: no line of a trace is so
+  script.txt:14: never met: no such controller: one alone has no mark
+  script.txt:15: never met: the trace's end comes behind the last line alone
+  [1]
+  $ ./lab test examples/two_cells.toml script.txt 2>/dev/null | sed -n 3,8p
+  # line 1
+  # expected: event open 1 0/0/3 -> done
+  # came: no line stands before it
+  # line 4
+  # expected: out abis 0 0 CHANEL ACTIVATION tn=3
+  # came: "CHANEL ACTIVATION" is no message of the link
+
+The lines of octets that are no message may come, with an argument or without one.
+
+  $ printf 'abis 0 0 ff\n#> fault abis 1\nabis 0 0 0821\n#> ..\n#! fault abis 1\n' >fault.txt
+  $ ./lab test examples/two_cells.toml fault.txt
+  1..1
+  ok 1 - fault.txt
+
+Behind any lines the one is shown that is nearest to what is expected: of the same link and message, else of the same link, else
+of the same kind; what differs first, and how many came.
+
+  $ cat >near.txt <<'END'
+  > sim
+  > open 1 0 0 3
+  > handover 1 1
+  > #> ..
+  > #> out abis 1 1 CHANNEL ACTIVATION tn=4
+  > #> ..
+  > END
+  $ ./lab test examples/two_cells.toml near.txt
+  1..1
+  not ok 1 - near.txt
+  # line 5
+  # expected: out abis 1 1 CHANNEL ACTIVATION tn=4
+  # came: out abis 1 1 CHANNEL ACTIVATION tn=3 activation=2 mode=00010801 reference=0
+  # nearest of the 23 that came: tn=3, not tn=4
+  [1]
+  $ sed 's/CHANNEL ACTIVATION tn=4/RF CHANNEL RELEASE tn=4/' near.txt >message.txt
+  $ ./lab test examples/two_cells.toml message.txt | sed -n 4,6p
+  # expected: out abis 1 1 RF CHANNEL RELEASE tn=4
+  # came: out abis 0 0 RF CHANNEL RELEASE tn=3
+  # nearest of the 23 that came: 0, not 1
+  $ sed 's/out abis.*/out a 1 HANDOVER FAILURE/' near.txt >link.txt
+  $ ./lab test examples/two_cells.toml link.txt | sed -n 6p
+  # nearest of the 23 that came: PERFORMED, not FAILURE
+  $ sed 's/out abis.*/fault rr 2 3/' near.txt >kind.txt
+  $ ./lab test examples/two_cells.toml kind.txt | sed -n 4,5p
+  # expected: fault rr 2 3
+  # came none of its kind, 23 others
+
+A star stands for any word, for any part of a channel, for the value of a field, and behind `->` for any reply.
+
+  $ cat >star.txt <<'END'
+  > sim
+  > open 1 0 0 3
+  > #> event open 1 0/*/* -> done
+  > #> out abis * * CHANNEL ACTIVATION reference=* tn=*
+  > #> ..
+  > #> event look 1 -> *
+  > handover 1 1
+  > #> ..
+  > #> event take 1 internal 1/*/* -> *
+  > #> ..
+  > #> out abis 1 * CHANNEL ACTIVATION tn=*
+  > #> ..
+  > #= call 1 1/*/*
+  > #= channels 1/*/*
+  > #= cell 1 1
+  > #= cell 0 0
+  > #= timers T3103 0
+  > #= call 2 -
+  > END
+  $ ./lab test examples/two_cells.toml star.txt
+  1..1
+  ok 1 - star.txt
+  $ cat >stars.txt <<'END'
+  > sim
+  > seize 1 0 half
+  > #> event open 1 0/*/* -> done
+  > #> ..
+  > seize 2 0 half
+  > #> ..
+  > #> out abis 1 * CHANNEL ACTIVATION tn=*
+  > #> ..
+  > #= call 1 -
+  > #= call 3 *
+  > #= cell 0 1
+  > #= cell 7 0
+  > #= timers T3103 1
+  > #= timers T9 0
+  > END
+  $ ./lab test examples/half_rate.toml stars.txt
+  1..1
+  not ok 1 - stars.txt
+  # line 3
+  # expected: event open 1 0/*/* -> done
+  # came: event open 1 0/0/3/0 -> done
+  # line 7
+  # expected: out abis 1 * CHANNEL ACTIVATION tn=*
+  # came: out abis 0 0 CHANNEL ACTIVATION tn=3/1 activation=0 mode=00010901 reference=-
+  # nearest of the 7 that came: 0, not 1
+  # line 9
+  # expected: call 1 -
+  # came: call 1 0/0/3/0
+  # line 10
+  # expected: call 3 *
+  # came: no call 3
+  # line 11
+  # expected: cell 0 1
+  # came: cell 0 2
+  # line 12
+  # expected: cell 7 0
+  # came: no cell 7
+  # line 13
+  # expected: timers T3103 1
+  # came: timers T3103 0
+  # line 14
+  # expected: timers T9 0
+  # came: no such expectation
+  [1]
 
 An event gets its own replies alone; the trace's end comes behind the last line, and there are no simulators without `sim`.
 
@@ -408,7 +629,7 @@ An event gets its own replies alone; the trace's end comes behind the last line,
   script.txt:11: never missed: the trace's end comes behind the last line alone
   script.txt:12: never missed: no line sim stands before it
   [1]
-  $ printf 'sim\nopen 1 0 0 3\n#! sim limit\n#! s\nclear 1\n#! end channels=1\n' >script.txt
+  $ printf 'sim\nopen 1 0 0 3\n#! sim limit\n#! sim\nclear 1\n#! end channels=1\n' >script.txt
   $ ./lab test examples/two_cells.toml script.txt
   1..1
   ok 1 - script.txt
@@ -605,10 +826,10 @@ Without a mark `#=` says nothing of two controllers, and isn't met; `#!` is of a
   not ok 1 - unmarked.txt
   # line 2
   # expected none that begins with: out abis 0 0 CHANNEL ACTIVATION
-  # came: 1: out abis 0 0 0821010b0300060400010801
+  # came: 1: out abis 0 0 CHANNEL ACTIVATION tn=3 activation=0 mode=00010801 reference=-
   # line 3
   # expected none that begins with: out abis 0 0 CHANNEL ACTIVATION reference=-
-  # came: 1: out abis 0 0 0821010b0300060400010801
+  # came: 1: out abis 0 0 CHANNEL ACTIVATION tn=3 activation=0 mode=00010801 reference=-
   # line 5
   # expected: calls 1
   # came: no mark: 1: or 2: stands before it
@@ -624,9 +845,10 @@ Without a mark `#=` says nothing of two controllers, and isn't met; `#!` is of a
   $ ./lab test examples/two_cells.toml script.txt --peer examples/one_cell.toml 2>&1 >/dev/null
   script.txt:4: never missed: no line of a trace begins so
   script.txt:5: never missed: no line of a trace begins so
+  script.txt:7: never missed: no line of a trace begins so
   [1]
 
-A script that expects nothing isn't met, nor is one whose comments have slipped: that is told on standard error.
+A script that expects nothing isn't met, nor is one whose comments have slipped: that is told on standard error, too.
 
   $ printf 'open 1 0 0 3\nclear 1\n' >script.txt
   $ ./lab test examples/two_cells.toml script.txt
@@ -634,39 +856,64 @@ A script that expects nothing isn't met, nor is one whose comments have slipped:
   not ok 1 - script.txt
   # nothing is expected
   [1]
-  $ printf 'open 1 0 0 3\n# > in open 1 0 0 3\n#=calls 1\n#!out\n#\t>..\n# note: a > b\n#====\n# = note\n' >script.txt
+  $ printf 'open 1 0 0 3\n# > in open 1 0 0 3\n#=calls 1\n#!out\n#\t>..\n# note: a > b\n#====\n# = note\n#=====\n# ===== A call.\n' >script.txt
   $ ./lab test examples/two_cells.toml script.txt 2>errors
   1..1
   not ok 1 - script.txt
   # nothing is expected
+  # line 2 looks like an expectation, but isn't one
+  # line 3 looks like an expectation, but isn't one
+  # line 4 looks like an expectation, but isn't one
+  # line 5 looks like an expectation, but isn't one
+  # line 7 looks like an expectation, but isn't one
+  # line 8 looks like an expectation, but isn't one
   [1]
   $ cat errors
   script.txt:2: an expectation but for a blank? "#> ", "#! " and "#= " begin one
   script.txt:3: an expectation but for a blank? "#> ", "#! " and "#= " begin one
   script.txt:4: an expectation but for a blank? "#> ", "#! " and "#= " begin one
   script.txt:5: an expectation but for a blank? "#> ", "#! " and "#= " begin one
+  script.txt:7: an expectation but for a blank? "#> ", "#! " and "#= " begin one
+  script.txt:8: an expectation but for a blank? "#> ", "#! " and "#= " begin one
   $ printf 'open 1 0 0 3\n#= 1: calls 1\n#=1: calls 7\n#!2: out\n#=\tcalls 7\n#!\tout\n' >script.txt
   $ ./lab test examples/two_cells.toml script.txt --peer examples/one_cell.toml 2>errors
   1..1
-  ok 1 - script.txt
+  not ok 1 - script.txt
+  # line 3 looks like an expectation, but isn't one
+  # line 4 looks like an expectation, but isn't one
+  # line 5 looks like an expectation, but isn't one
+  # line 6 looks like an expectation, but isn't one
+  [1]
   $ cat errors
   script.txt:3: an expectation but for a blank? "#> ", "#! " and "#= " begin one
   script.txt:4: an expectation but for a blank? "#> ", "#! " and "#= " begin one
   script.txt:5: an expectation but for a blank? "#> ", "#! " and "#= " begin one
   script.txt:6: an expectation but for a blank? "#> ", "#! " and "#= " begin one
-  $ printf 'open 1 0 0 3\n#>..\n#>\n#!\n#=\n' >script.txt
-  $ ./lab test examples/two_cells.toml script.txt 2>&1 >/dev/null
-  script.txt:2: an expectation without a blank behind "#>": was one meant?
-  script.txt:4: an expectation but for a blank? "#> ", "#! " and "#= " begin one
-  script.txt:5: an expectation but for a blank? "#> ", "#! " and "#= " begin one
+  $ printf 'open 1 0 0 3\n#>..\n#!\n#=\n##= calls 1\n# ! out\n#\t>..\n' >script.txt
+  $ ./lab test examples/two_cells.toml script.txt 2>/dev/null
+  1..1
+  not ok 1 - script.txt
+  # line 3 looks like an expectation, but isn't one
+  # line 4 looks like an expectation, but isn't one
+  # line 5 looks like an expectation, but isn't one
+  # line 6 looks like an expectation, but isn't one
+  # line 7 looks like an expectation, but isn't one
   [1]
+  $ printf 'open 1 0 0 3\n#>event open 1 0/0/3 -> done\n#>..\n#=========\n' >script.txt
+  $ ./lab test examples/two_cells.toml script.txt
+  1..1
+  ok 1 - script.txt
 
 So is what looks as if it named a site.
 
   $ printf '#%% Site town.toml\n#%%site town.toml\n#%%  peer p.toml\n#%% site\n#%% town.toml\n#%%%%%%%%\n#%% %%\nopen 1 0 0 3\n#= calls 1\n' >script.txt
   $ ./lab test examples/two_cells.toml script.txt 2>errors
   1..1
-  ok 1 - script.txt
+  not ok 1 - script.txt
+  # line 2 looks like an expectation, but isn't one
+  # line 3 looks like an expectation, but isn't one
+  # line 4 looks like an expectation, but isn't one
+  [1]
   $ cat errors
   script.txt:1: names nothing: "#% site PATH" and "#% peer PATH" name sites
   script.txt:2: names nothing: "#% site PATH" and "#% peer PATH" name sites
@@ -816,7 +1063,7 @@ A blank that ends a line that is expected can't be seen: it is said.
   not ok 1 - blank.txt
   # line 2
   # expected: event open 1 0/0/3 -> done  (a blank ends it)
-  # came: event open 1 0/0/3 -> done
+  # came: no line of a trace is so
   # line 4
   # expected: calls 1  (a blank ends it)
   # came: calls 1

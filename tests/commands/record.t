@@ -99,7 +99,7 @@ it that expects something is needed: with another, the test names that line.
   >   ./lab record examples/two_cells.toml recorded.txt "$@" | cmp - recorded.txt
   >   for line in $(sed -n '/^#>/=' recorded.txt); do
   >     sed "$line"'s/\r*$/!/' recorded.txt >spoilt.txt
-  >     ./lab test examples/two_cells.toml spoilt.txt "$@" | sed -n '2,3p' >said
+  >     ./lab test examples/two_cells.toml spoilt.txt "$@" 2>/dev/null | sed -n '2,3p' >said
   >     printf 'not ok 1 - spoilt.txt\n# line %s\n' "$line" | cmp - said
   >   done
   > }

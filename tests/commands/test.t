@@ -21,7 +21,7 @@ Any lines.
 What comes of the first line differs, and of the second.
 
   $ printf 'open 1 0 0 3\n\n#> in open 1 0 0 3\n#> event open 1 0/0/2 -> done\n#> ..\nclear 1\n#> no\n' >script.txt
-  $ ./lab test examples/two_cells.toml script.txt
+  $ ./lab test examples/two_cells.toml script.txt 2>/dev/null
   1..1
   not ok 1 - script.txt
   # line 4
@@ -29,7 +29,7 @@ What comes of the first line differs, and of the second.
   # came: event open 1 0/0/3 -> done
   # line 7
   # expected: no
-  # came: event look 1 -> record 0/0/3 pending
+  # came: no line of a trace is so
   [1]
 
 More comes than is expected.
@@ -51,7 +51,7 @@ The line is that of the last comment that expects something.
   not ok 1 - script.txt
   # line 4
   # expected nothing more
-  # came: out abis 0 0 0821010b0300060400010801
+  # came: out abis 0 0 CHANNEL ACTIVATION tn=3 activation=0 mode=00010801 reference=-
   [1]
 
 For any lines none may stand, or some of which one is like the line behind them.
@@ -68,7 +68,7 @@ For any lines none may stand, or some of which one is like the line behind them.
   not ok 1 - script.txt
   # line 3
   # expected nothing more
-  # came: out abis 0 0 0821010b0300060400010801
+  # came: out abis 0 0 CHANNEL ACTIVATION tn=3 activation=0 mode=00010801 reference=-
   [1]
 
 The echo of the line may be left out, that of the second controller too, but no other input.
@@ -83,10 +83,10 @@ The echo of the line may be left out, that of the second controller too, but no 
   not ok 1 - script.txt
   # line 5
   # expected: event confirm 0/0/3 -> owned 1
-  # came: in abis 0 0 0822010b080000
+  # came: in abis 0 0 CHANNEL ACTIVATION ACK tn=3 frame=0
   [1]
 
-A line of which less comes than is expected; comments that expect nothing, and one that expects two dots behind a blank.
+Lines that never come, a comment that has slipped, and one that expects two dots behind a blank.
 
   $ printf 'undo 1\n#> in undo 1\n#> event undo 1 asked -> refused 1\n#> b\nundo 2\n# > c\nundo 3\n#>  ..\nundo 4\n' >script.txt
   $ ./lab test examples/two_cells.toml script.txt 2>/dev/null
@@ -94,10 +94,11 @@ A line of which less comes than is expected; comments that expect nothing, and o
   not ok 1 - script.txt
   # line 4
   # expected: b
-  # came nothing more
+  # came: no line of a trace is so
+  # line 6 looks like an expectation, but isn't one
   # line 8
   # expected:  ..
-  # came: event undo 3 asked -> refused 1
+  # came: no line of a trace is so
   [1]
 
 A line that doesn't come.
@@ -109,17 +110,29 @@ A line that doesn't come.
   # line 3
   # expected: out a 1 00
   # came: out abis 0 0 0821010b0300060400010801
+  # nearest of the 3 that came: abis, not a
+  [1]
+
+Less comes than is expected.
+
+  $ printf 'undo 1\n#> in undo 1\n#> event undo 1 asked -> refused 1\n#> out a 1 CLEAR COMPLETE\nundo 2\n' >script.txt
+  $ ./lab test examples/two_cells.toml script.txt
+  1..1
+  not ok 1 - script.txt
+  # line 4
+  # expected: out a 1 CLEAR COMPLETE
+  # came nothing more
   [1]
 
 Nothing comes before the first line.
 
   $ printf '#> in open 1 0 0 3\nopen 1 0 0 3\n' >script.txt
-  $ ./lab test examples/two_cells.toml script.txt
+  $ ./lab test examples/two_cells.toml script.txt 2>/dev/null
   1..1
   not ok 1 - script.txt
   # line 1
   # expected: in open 1 0 0 3
-  # came nothing more
+  # came: no line stands before it
   [1]
 
 A script without lines has its end.
@@ -148,12 +161,12 @@ Names and texts are printed with escapes, so that each stands in one line, and t
 
   $ name=$(printf 'a#\\b\nc\177')
   $ printf 'undo 1\n#> \033[31m\t#\\\nundo 2\n' >"$name"
-  $ ./lab test examples/two_cells.toml "$name"
+  $ ./lab test examples/two_cells.toml "$name" 2>/dev/null
   1..1
   not ok 1 - a\#\\b\nc\u{7f}
   # line 2
   # expected: \u{1b}[31m\t#\
-  # came: event undo 1 asked -> refused 1
+  # came: no line of a trace is so
   [1]
 
 A line can't be read.
@@ -200,16 +213,18 @@ Scripts are tested one by one. One that is refused doesn't keep the others from 
 With a peer each line of the trace has its mark. A peer's file that is no site is refused, and so is a site's that isn't
 there.
 
-  $ ./lab test examples/two_cells.toml met.txt --peer examples/one_cell.toml
+  $ ./lab test examples/two_cells.toml met.txt --peer examples/one_cell.toml 2>/dev/null | head -n 8
   1..1
   not ok 1 - met.txt
   # line 3
   # expected: in open 1 0 0 3
-  # came: 1: in open 1 0 0 3
-  # line 9
-  # expected: in abis 0 0 0822010b081234
-  # came: 1: in abis 0 0 0822010b081234
-  [1]
+  # came: no mark: 1: or 2: stands before it
+  # line 4
+  # expected: event open 1 0/0/3 -> done
+  # came: no mark: 1: or 2: stands before it
+  $ sed 's/#> \(.*open\)/#> 1: \1/' met.txt >one.txt
+  $ ./lab test examples/two_cells.toml one.txt --peer examples/one_cell.toml 2>&1 >/dev/null | head -n 1
+  one.txt:5: never met: no mark: 1: or 2: stands before it
   $ ./lab test examples/two_cells.toml met.txt --peer met.txt 2>errors
   site 1
   [2]

@@ -1,11 +1,12 @@
 -- What books hold, and what is expected of it, word for word. A text is the list of its bytes. Ours, of no standard.
-use Rattle.std.specs.Prelude.{ℕ, ◌==◌, ◌||◌, ◌&&◌, Bool, List, length, codes, zip, bytes_eq}
+use Rattle.std.specs.Prelude.{ℕ, ◌==◌, ◌||◌, ◌&&◌, Bool, List, length, codes, zip}
 use Rattle.std.specs.List.{list_all}
+use Rattle.expectations.specs.Stars.{is_like}
 use Rattle.expectations.specs.Words.{words_of, has_word, has_all}
 
--- a word, and the one that is expected, for which * stands for any
+-- a word, and the one that is expected, in which a star stands for any
 abbrev pub is_word_met : List ℕ × List ℕ → Bool
-is_word_met words = bytes_eq words.1 (codes "*") || bytes_eq words.1 words.0
+is_word_met words = is_like words.0 words.1
 
 -- as many words, each of them met
 abbrev pub are_words_met : List ℕ → List ℕ → Bool

@@ -39,37 +39,53 @@ pub fn peer_in(line: &str) -> Option<&str>
     line.strip_prefix("#% peer ")
 }
 
-/// Whether a text begins with a blank or a tab, and `>` stands behind these.
-fn is_set_off(text: &str) -> bool {
-    (text.starts_with(" ") || text.starts_with("\t")) && text.trim_start().starts_with(">")
+/// Whether a comment says something to a test: what comes, what doesn't, what the books hold, or over which sites it is run.
+fn is_mark(line: &str) -> bool
+    ensures { result ≡ said.is_mark line.now }
+{
+    line.starts_with("#>")
+        || refused_in(line).is_some()
+        || held_in(line).is_some()
+        || site_in(line).is_some()
+        || peer_in(line).is_some()
 }
 
-/// Whether a text begins with `>`, and a character but a blank stands behind that.
-fn is_glued(text: &str) -> bool {
-    match text.strip_prefix(">") {
-        Some(rest) => !rest.is_empty() && !rest.starts_with(" "),
-        None => false,
+/// What stands behind the number signs, blanks and tabs that begin a text.
+fn behind_signs(text: &[u8]) -> &[u8]
+    ensures { result.now ≡ said.behind_signs text.now }
+{
+    let mut rest = text;
+    while let [b'#' | b' ' | b'\t', behind @ ..] = rest {
+        rest = behind;
+    }
+    rest
+}
+
+/// Whether a text begins as the name of a site does behind `%`, or of a peer's.
+fn begins_as_site(text: &[u8]) -> bool
+    ensures { result ≡ said.begins_as_site text.now }
+{
+    text.starts_with(b"site") || text.starts_with(b"peer")
+}
+
+/// Whether a text begins as a mark does behind `#`. Five equal signs begin a ruler.
+fn begins_as_mark(text: &[u8]) -> bool
+    ensures { result ≡ said.begins_as_mark text.now }
+{
+    match text {
+        [b'>' | b'!', ..] => true,
+        [b'=', ..] => !text.starts_with(b"====="),
+        [b'%', behind @ ..] => begins_as_site(behind_signs(behind)),
+        [..] => false,
     }
 }
 
-/// Whether a text is one of the other marks, or a letter, a digit or a tab stands behind one that begins it.
-fn is_glued_mark(text: &str) -> bool {
-    match text.as_bytes() {
-        [b'!' | b'='] => true,
-        [b'!' | b'=', octet, ..] => octet.is_ascii_alphanumeric() || *octet == b'\t',
-        _ => false,
-    }
-}
-
-/// Whether a comment looks like one that was to expect something, but for a blank that is missing or too many: `# >`, `#>`
-/// without its blank, and so `#!` or `#=` before a letter, a digit or a tab, or alone.
-///
-/// No clause says which do: nothing but a line for a person hangs on it.
-pub fn is_slipped(line: &str) -> bool {
-    match line.strip_prefix("#") {
-        Some(text) => is_set_off(text) || is_glued(text) || is_glued_mark(text),
-        None => false,
-    }
+/// Whether a comment looks like one that says something to a test, and isn't one: number signs, blanks and tabs in front dropped,
+/// it begins with `>`, `!`, `=`, `% site` or `% peer`. Five equal signs begin a ruler.
+pub fn is_slipped(line: &str) -> bool
+    ensures slipped { result ≡ said.is_slipped line.now }
+{
+    line.starts_with("#") && begins_as_mark(behind_signs(line.as_bytes())) && !is_mark(line)
 }
 
 /// Whether a letter begins a text.

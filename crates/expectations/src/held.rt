@@ -5,6 +5,7 @@ ghost use Rattle.std.specs.Prelude.{◌≡◌};
 ghost use Rattle.expectations.specs.Held as said;
 
 use crate::slots::{Slot, Use};
+use crate::stars::is_like;
 use crate::words::{has_word, has_words_of, word_count};
 use std::alloc::{AllocError, Allocator, Global};
 use std::fmt;
@@ -19,6 +20,12 @@ enum Question<'a> {
     Channels,
     /// `call CALL`: its serving channel and its attempt.
     Call(&'a str),
+    /// `call CALL -`: that there is none of this number.
+    NoCall(&'a str),
+    /// `cell CELL`: how many of its channels are in use.
+    Cell(&'a str),
+    /// `timers TIMER`: how many run.
+    Timers(&'a str),
     /// `calls`: how many there are.
     Calls,
     /// `references`: how many there are.
@@ -44,13 +51,36 @@ fn first_word(text: &str) -> &str {
     }
 }
 
+/// What is asked of a call, by what stands behind that word.
+fn call_question(rest: &str) -> Question<'_> {
+    match rest.split_once(' ') {
+        Some((call, "-")) => Question::NoCall(call),
+        Some((call, _)) => Question::Call(call),
+        None => Question::Call(rest),
+    }
+}
+
+/// What is asked of the timers of this name; nothing where there are none (TS 44.018 clause 11.1, TS 48.008 clause 3.1.5).
+fn timers_question(name: &str) -> Option<Question<'_>> {
+    match name {
+        "T3103" | "T7" | "T8" => Some(Question::Timers(name)),
+        _ => None,
+    }
+}
+
 /// What is asked by a text without its mark; nothing where its words ask for nothing.
 fn question_of(text: &str) -> Option<Question<'_>> {
     if let Some(rest) = text.strip_prefix("trx ") {
         return Some(Question::Trx(first_word(rest)));
     }
     if let Some(rest) = text.strip_prefix("call ") {
-        return Some(Question::Call(first_word(rest)));
+        return Some(call_question(rest));
+    }
+    if let Some(rest) = text.strip_prefix("cell ") {
+        return Some(Question::Cell(first_word(rest)));
+    }
+    if let Some(rest) = text.strip_prefix("timers ") {
+        return timers_question(first_word(rest));
     }
     match first_word(text) {
         "channels" => Some(Question::Channels),
@@ -187,12 +217,13 @@ fn print_record<W: fmt::Write>(f: &mut fmt::Formatter<W>, record: &str) -> fmt::
     Ok(())
 }
 
-/// Prints a call, or that there is none of this number.
+/// Prints a call, or that there is none of this number: in the words of an expectation, where that is what is expected.
 fn print_call<W: fmt::Write>(
     f: &mut fmt::Formatter<W>,
     lines: &[&str],
     mark: &str,
     call: &str,
+    is_absent: bool,
 ) -> fmt::Result {
     for line in lines {
         if let Some(record) = record_in(*line, mark, call) {
@@ -200,7 +231,58 @@ fn print_call<W: fmt::Write>(
             return print_record(f, record);
         }
     }
-    write!(f, "{mark}no call {call}")
+    if is_absent {
+        write!(f, "{mark}call {call} -")
+    } else {
+        write!(f, "{mark}no call {call}")
+    }
+}
+
+/// How many channels of a cell are in use.
+fn count_of_channels(lines: &[&str], mark: &str, cell: &str) -> usize {
+    lines
+        .iter()
+        .filter(|line| is_in_cell(behind(**line, mark, "state channel "), cell))
+        .count()
+}
+
+/// Whether what stands behind the first words of a line begins with a cell's number and a slash.
+fn is_in_cell(found: Option<&str>, cell: &str) -> bool {
+    match found {
+        Some(text) => match text.split_once('/') {
+            Some((number, _)) => number == cell,
+            None => false,
+        },
+        None => false,
+    }
+}
+
+/// Prints how many channels of a cell are in use, or that the site has no such cell.
+fn print_cell<W: fmt::Write>(
+    f: &mut fmt::Formatter<W>,
+    lines: &[&str],
+    mark: &str,
+    cell: &str,
+) -> fmt::Result {
+    if !lines
+        .iter()
+        .any(|line| is_in_cell(behind(*line, mark, "state trx "), cell))
+    {
+        return write!(f, "{mark}no cell {cell}");
+    }
+    let count = count_of_channels(lines, mark, cell);
+    write!(f, "{mark}cell {cell} {count}")
+}
+
+/// How many timers of a name run.
+fn count_of_timers(lines: &[&str], mark: &str, timer: &str) -> usize {
+    lines
+        .iter()
+        .filter(|line| match behind(**line, mark, "state timer ") {
+            Some(found) => first_word(found) == timer,
+            None => false,
+        })
+        .count()
 }
 
 /// How many lines begin with a mark and these words.
@@ -224,7 +306,13 @@ impl fmt::Display for AnswerText<'_> {
                 write!(f, "{mark}channels")?;
                 print_channels(f, lines, mark)
             }
-            Question::Call(call) => print_call(f, lines, mark, call),
+            Question::Call(call) => print_call(f, lines, mark, call, false),
+            Question::NoCall(call) => print_call(f, lines, mark, call, true),
+            Question::Cell(cell) => print_cell(f, lines, mark, cell),
+            Question::Timers(timer) => {
+                let count = count_of_timers(lines, mark, timer);
+                write!(f, "{mark}timers {timer} {count}")
+            }
             Question::Calls => {
                 let count = count_of(lines, mark, "state call ");
                 write!(f, "{mark}calls {count}")
@@ -268,7 +356,8 @@ pub enum Answered<A: Allocator = Global> {
 }
 
 /// What the lines of what books hold, as `--state` prints them, with a line `state trx CELL/TRX` for each TRX of the sites, answer
-/// to what is expected of these, in its form: `trx`, `channels`, `call`, `calls` or `references` behind a controller's mark.
+/// to what is expected of these, in its form: `trx`, `channels`, `call`, `cell`, `calls`, `references` or `timers` behind a controller's
+/// mark.
 pub fn answer_to<A: Allocator + Copy>(
     alloc: A,
     expected: &str,
@@ -331,11 +420,11 @@ pub fn print_expected<'a, W: Write>(
     Ok(())
 }
 
-/// Whether a word meets another, for which `*` stands for any.
+/// Whether a word meets another, in which `*` stands for any, or for any part of a channel.
 fn is_word_met(word: &str, expected: &str) -> bool
     ensures { result ≡ said.is_word_met (word.now, expected.now) }
 {
-    expected == "*" || expected == word
+    is_like(word, expected)
 }
 
 /// Whether all words meet those that are expected, in their order.

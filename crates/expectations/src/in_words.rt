@@ -1,16 +1,18 @@
 //! Messages in words, and whether they are those that are expected.
-ghost use Rattle.std.specs.Prelude.{◌≡◌, nat_eq};
-ghost use Rattle.std.specs.List.{starts_with};
+ghost use Rattle.std.specs.Prelude.{◌≡◌};
 ghost use Rattle.expectations.specs.InWords as said;
 
+use crate::ends::{begins_line, begins_words};
 use crate::marks::without_mark;
-use crate::words::{has_words_of, have_same_name};
+use crate::stars::is_line_like;
+use crate::words::{has_words_like, have_same_name};
 
-/// Whether a message is an expected one: it has the same name, and all fields that are expected.
+/// Whether a message is an expected one: it has the same name, and all fields that are expected. `*` stands for any word, value, or
+/// part of a channel.
 fn is_part_met(part: &str, expected: &str) -> bool
     ensures { result ≡ said.is_part_met part.now expected.now }
 {
-    have_same_name(part, expected) && has_words_of(part, expected)
+    have_same_name(part, expected) && has_words_like(part, expected)
 }
 
 /// Whether one of the parts of a line in words is an expected one.
@@ -35,29 +37,23 @@ fn are_met(words: &str, expected: &str) -> bool
     !words.is_empty() && are_in_words(words, expected)
 }
 
-/// Whether a line that came is one that is expected: it is that text; or it is a message that is so in words.
+/// Whether a line that came is one that is expected: it is that text, in which `*` stands for any word, part of a channel, or reply; or
+/// it is a message that is so in words.
 pub fn is_met_by(line: &str, words: &str, expected: &str) -> bool
     ensures met { result ≡ said.is_met_by line.now words.now expected.now }
 {
-    line == expected || are_met(words, expected)
-}
-
-/// Whether a text begins with another.
-fn begins(text: &str, start: &str) -> bool
-    ensures { result ≡ starts_with nat_eq text.now start.now }
-{
-    text.starts_with(start)
+    is_line_like(line, expected) || are_met(words, expected)
 }
 
 /// Whether a line is one that is refused, with the marks that both have.
 fn is_refused_as(line: &str, words: &str, text: &str) -> bool
     ensures { result ≡ said.is_refused_as line.now words.now text.now }
 {
-    begins(line, text) || begins(words, text) || are_met(words, text)
+    begins_line(line, text) || begins_words(words, text) || are_met(words, text)
 }
 
-/// Whether a line that came is one that is refused: it begins with that text, by itself or in words, or it is a message that is
-/// so in words. Where the text has no controller's mark, the line may be of any.
+/// Whether a line that came is one that is refused: it begins with that text, by itself or in words, which ends a word there, or
+/// between two octets; or it is a message that is so in words. Where the text has no controller's mark, the line may be of any.
 pub fn is_refused_by(line: &str, words: &str, text: &str) -> bool
     ensures refused { result ≡ said.is_refused_by line.now words.now text.now }
 {

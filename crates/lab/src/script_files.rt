@@ -1,115 +1,32 @@
 //! Tests and records of scripts in files.
 use crate::files::text_of;
+use crate::flaws::{say_flaws, test_flawed};
 use crate::junit::Report;
 use crate::run_reason::{Naming, say_cut_script, say_line, say_refusal};
-use crate::script_notes::{say_idle_settings, say_never, say_slipped};
+use crate::script_notes::{say_idle_settings, say_slipped};
 use crate::script_sites::{
     GivenSites, ScriptSites, fault_of, say_other_sites, sites_named_by, sites_of_script,
 };
 use crate::site_files::{GivenPaths, SitePaths, SiteTexts, say_reasons, site_texts};
 use crate::view_paths::{is_same, refuse_twice};
 use expectations::Recording;
-use idle_settings::Idle;
 use lab_runs::run::{Status, refuse_site};
 use run_listeners::{LabFault, Printing};
 use std::alloc::Global;
 use std::io::{self, Write};
 use std::rt::Files;
 use tested_scripts::recorded::record_run;
-use tested_scripts::tested::{Numbered, test_run};
-use tested_scripts::{Miss, NeverLine, print_miss, print_not_met, print_plan, print_reason};
+use tested_scripts::tested::Numbered;
+use tested_scripts::{Miss, print_miss, print_plan};
 use undone_runs::tried::{Trial, try_undos};
 use undone_runs::{Tally, print_tally};
 
 /// The worse of two ends: one that was refused, then one that differs.
-fn worse(one: Status, other: Status) -> Status {
+pub(crate) fn worse(one: Status, other: Status) -> Status {
     match (one, other) {
         (Status::Refused, _) | (_, Status::Refused) => Status::Refused,
         (Status::Differs, _) | (_, Status::Differs) => Status::Differs,
         (Status::Done, Status::Done) => Status::Done,
-    }
-}
-
-/// What of a script makes that it isn't met, whatever comes of it.
-#[derive(Drop)]
-struct Flaws<'a> {
-    /// Lines that come to nothing.
-    idle: Vec<Idle>,
-    /// Lines that nothing can miss.
-    never: Vec<NeverLine<'a>>,
-}
-
-/// Prints a line of a script that nothing can miss.
-fn print_never<W: Write>(alloc: Global, never: NeverLine<'_>, out: &mut W) -> Result<(), LabFault> {
-    let NeverLine { line, refused, why } = never;
-    let came = format!(in alloc; "{why}")?;
-    let came = came.as_str();
-    Ok(print_reason(
-        out,
-        Miss::Begins {
-            line,
-            refused,
-            came,
-        },
-    )?)
-}
-
-/// Prints that a script isn't met, since it has flaws.
-fn print_flaws<W: Write>(
-    alloc: Global,
-    flaws: &Flaws<'_>,
-    test: Numbered<'_>,
-    out: &mut W,
-) -> Result<(), LabFault> {
-    print_not_met(out, test.number, test.name)?;
-    for setting in &flaws.idle {
-        print_reason(out, Miss::Idle(setting.line))?;
-    }
-    for never in &flaws.never {
-        print_never(alloc, *never, out)?;
-    }
-    Ok(())
-}
-
-/// What is printed of a test behind its first line, which says whether it is met.
-fn behind_first(printed: &[u8]) -> &[u8] {
-    match printed.iter().position(|octet| *octet == b'\n') {
-        Some(end) => printed.get(end.saturating_add(1)..).unwrap_or(&[]),
-        None => &[],
-    }
-}
-
-/// Tests a script that has flaws: it isn't met, and these stand before what else isn't.
-fn test_flawed<W: Write>(
-    alloc: Global,
-    sites: &SiteTexts,
-    script: &str,
-    test: Numbered<'_>,
-    flaws: &Flaws<'_>,
-    out: &mut W,
-) -> Result<Status, LabFault> {
-    print_flaws(alloc, flaws, test, out)?;
-    let (first, peer) = (sites.first(), sites.peer());
-    let mut printed = Vec::new(alloc);
-    let status = test_run(alloc, alloc, first, peer, script, test, &mut printed)?;
-    out.write_all(behind_first(&printed))?;
-    Ok(worse(Status::Differs, status))
-}
-
-/// Tests a script that may have flaws.
-fn test_found<W: Write>(
-    alloc: Global,
-    sites: &SiteTexts,
-    script: &str,
-    test: Numbered<'_>,
-    flaws: &Flaws<'_>,
-    out: &mut W,
-) -> Result<Status, LabFault> {
-    if flaws.idle.is_empty() && flaws.never.is_empty() {
-        let (first, peer) = (sites.first(), sites.peer());
-        test_run(alloc, alloc, first, peer, script, test, out)
-    } else {
-        test_flawed(alloc, sites, script, test, flaws, out)
     }
 }
 
@@ -119,16 +36,14 @@ fn test_over<W: Write, E: Write>(
     sites: &SiteTexts,
     naming: Naming,
     script: &str,
+    slipped: Vec<usize>,
     test: Numbered<'_>,
     out: &mut W,
     errors: &mut E,
 ) -> Result<Status, LabFault> {
     let has_peer = sites.peer().is_some();
-    let flaws = Flaws {
-        idle: say_idle_settings(alloc, test.name, sites, script, errors)?,
-        never: say_never(alloc, test.name, script, has_peer, errors)?,
-    };
-    let status = test_found(alloc, sites, script, test, &flaws, out)?;
+    let flaws = say_flaws(alloc, test.name, sites, script, slipped, errors)?;
+    let status = test_flawed(alloc, sites, script, test, &flaws, out)?;
     if status == Status::Refused {
         // the sites were read before
         say_line(alloc, test.name, script, has_peer, naming, errors)?;
@@ -150,15 +65,15 @@ fn test_file<R: Files + AllocGlobal, W: Write, E: Write>(
         return Ok(Status::Refused);
     };
     say_cut_script(test.name, &script, errors)?;
-    say_slipped(test.name, &script, errors)?;
+    let slipped = say_slipped(alloc, test.name, &script, errors)?;
     match sites_of_script(rt, given, test.name, &script, errors)? {
         ScriptSites::Given(texts) => {
             let naming = Naming::Given;
-            test_over(alloc, texts, naming, &script, test, out, errors)
+            test_over(alloc, texts, naming, &script, slipped, test, out, errors)
         }
         ScriptSites::Named(texts) => {
             let naming = Naming::InScript;
-            test_over(alloc, &texts, naming, &script, test, out, errors)
+            test_over(alloc, &texts, naming, &script, slipped, test, out, errors)
         }
         ScriptSites::Unreadable(miss) => {
             print_miss(out, test.number, test.name, miss)?;

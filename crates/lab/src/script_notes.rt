@@ -5,39 +5,53 @@
 use crate::site_files::SiteTexts;
 use expectations::{is_slipped, names_no_site};
 use idle_settings::{Cause, Idle, Texts, idle_settings};
+use lab_runs::run::read_sites;
 use lab_script::script::{Side, without_return};
 use run_listeners::LabFault;
 use screen_text::Escaped;
-use std::alloc::Global;
+use std::alloc::{AllocError, Global};
 use std::io::{self, Write};
-use tested_scripts::{NeverLine, never_lines};
+use tested_scripts::{NeverLine, Told, never_lines};
 
-/// What is said of a comment that looks like one which was to say something, or that says it without its blank.
+/// Whether a comment has something to do with the name of a site: `%` stands behind the number signs, blanks and tabs that begin it.
+fn is_of_site(line: &str) -> bool {
+    let first = line
+        .bytes()
+        .find(|octet| !matches!(octet, b'#' | b' ' | b'\t'));
+    first == Some(b'%')
+}
+
+/// What is said of a comment that looks as if it said something to a test, but doesn't; nothing of another.
 fn slip_of(line: &str) -> Option<&'static str> {
-    if line.starts_with("#>") && is_slipped(line) {
-        Some("an expectation without a blank behind \"#>\": was one meant?")
+    if names_no_site(line) || (is_slipped(line) && is_of_site(line)) {
+        Some("names nothing: \"#% site PATH\" and \"#% peer PATH\" name sites")
     } else if is_slipped(line) {
         Some("an expectation but for a blank? \"#> \", \"#! \" and \"#= \" begin one")
-    } else if names_no_site(line) {
-        Some("names nothing: \"#% site PATH\" and \"#% peer PATH\" name sites")
     } else {
         None
     }
 }
 
-/// Says which comments of a script look as if they expected something, or named a site, but don't.
+/// Says which comments of a script look as if they expected something, or named a site, but don't. Answers the numbers of those
+/// with which a script isn't met.
 pub(crate) fn say_slipped<E: Write>(
+    alloc: Global,
     path: &str,
     script: &str,
     errors: &mut E,
-) -> Result<(), LabFault> {
+) -> Result<Vec<usize>, LabFault> {
+    let mut slipped = Vec::new(alloc);
     for (place, line) in script.split('\n').enumerate() {
-        if let Some(slip) = slip_of(without_return(line)) {
-            let number = place.saturating_add(1);
+        let line = without_return(line);
+        let number = place.saturating_add(1);
+        if let Some(slip) = slip_of(line) {
             writeln!(errors, "{}:{number}: {slip}", Escaped(path))?;
         }
+        if is_slipped(line) {
+            slipped.push(number).map_err(AllocError::from)?;
+        }
     }
-    Ok(())
+    Ok(slipped)
 }
 
 /// Says which lines of a script have a carriage return that doesn't end them: what stands behind it is no line of its own.
@@ -116,18 +130,26 @@ pub(crate) fn say_idle_settings<E: Write>(
     Ok(found.idle)
 }
 
-/// Says which comments of a script say that no line is so where none ever can be, and answers them.
+/// Says which comments of a script say that a line comes, or that none does, where none ever can be so, and answers them. Nothing is
+/// said where a text describes no site.
 pub(crate) fn say_never<'a, E: Write>(
     alloc: Global,
     path: &str,
+    texts: &SiteTexts,
     script: &'a str,
-    has_peer: bool,
     errors: &mut E,
 ) -> Result<Vec<NeverLine<'a>>, LabFault> {
-    let lines = never_lines(alloc, script, has_peer)?;
+    let Ok(sites) = read_sites(alloc, alloc, texts.first(), texts.peer()) else {
+        return Ok(Vec::new(alloc));
+    };
+    let lines = never_lines(alloc, script, &sites)?;
     for never in &lines {
-        let NeverLine { line, why, .. } = *never;
-        writeln!(errors, "{}:{line}: never missed: {why}", Escaped(path))?;
+        let NeverLine { line, told, why } = *never;
+        let kind = match told {
+            Told::Expected(_) => "never met",
+            Told::Refused(_) => "never missed",
+        };
+        writeln!(errors, "{}:{line}: {kind}: {why}", Escaped(path))?;
     }
     Ok(lines)
 }

@@ -252,6 +252,21 @@ fn first_difference<A: Allocator + Copy>(
     }))
 }
 
+/// The first place among the lines that came up to which those that stand before may have met what lines of a script expect.
+///
+/// No clause says which: nothing but a line for a person hangs on it.
+pub(crate) fn first_behind<A: Allocator + Copy>(
+    alloc: A,
+    lines: &[&str],
+    came: &[CameLine<'_>],
+) -> Result<usize, AllocError> {
+    let mut places = Vec::from_slice(alloc, &[first_place(lines, came)])?;
+    for line in lines {
+        places = next_places(alloc, &places, came, *line)?;
+    }
+    Ok(least(&places).unwrap_or(0))
+}
+
 /// Whether lines of a script expect something.
 fn expect_any(lines: &[&str]) -> bool
     ensures { result ≡ said.expect_any (texts_of lines.now) }

@@ -8,6 +8,7 @@ mod gathered;
 mod heard;
 mod lines;
 mod misses;
+mod nearest;
 mod never;
 mod never_messages;
 mod never_values;
@@ -17,7 +18,8 @@ pub mod tested;
 
 pub use compare::{CameLine, Difference, find_difference, find_last_difference};
 pub use lines::{expected_in, is_any, is_script_line, lines_of, part_end};
-pub use never::{Never, NeverLine, never_lines};
+pub use nearest::Nearest;
+pub use never::{Never, NeverLine, Told, never_lines};
 pub use printed::{
     Miss, TestName, ending_of, print_met, print_miss, print_not_met, print_plan, print_reason,
     print_recorded,

@@ -8,6 +8,7 @@ ghost use Rattle.tested_scripts.specs.Tests as tests;
 
 use crate::came::printed_lines;
 use crate::compare::CameLine;
+use crate::nearest::shown;
 use crate::printed::{Miss, print_reason};
 use expectations::{Answered, answer_to, held_in, is_answered, is_refused_by, refused_in};
 use run_listeners::LabFault;
@@ -59,7 +60,7 @@ pub(crate) fn print_broken<W: Write>(
         if let Some(refused) = refused_in(*line)
             && let Some(found) = came.iter().find(|found| is_refused(*found, refused))
         {
-            let came = found.text;
+            let came = shown(*found, Some(refused));
             print_reason(
                 out,
                 Miss::Begins {

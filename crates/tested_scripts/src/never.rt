@@ -1,10 +1,13 @@
-//! Expectations that nothing can miss: lines of a script that say that none begins so, where none ever can.
+//! Expectations that nothing can meet, or miss: lines of a script that say that a line comes, or that none begins so, where none ever
+//! can be so.
 //!
 //! No clause says which they are: that is shown by tests.
-use crate::lines::is_script_line;
+use crate::lines::{expected_in, is_any, is_script_line};
 use crate::never_messages::why_no_message;
+use cell_table::Site;
 use encoded_messages::MessageFault;
 use expectations::{refused_in, without_mark};
+use lab_runs::run::Sites;
 use lab_script::forms::{Form, cut_word, form_of};
 use lab_script::script::{cut_side, without_return};
 use std::alloc::{AllocError, Allocator, Global};
@@ -15,10 +18,18 @@ use std::fmt;
 pub enum Never<'a> {
     /// The mark of a controller begins it, and there is one alone.
     Marked,
+    /// No mark of a controller begins it, and there are two.
+    Unmarked,
     /// No line of a trace begins so.
     Beginning,
+    /// No line of a trace is so.
+    Line,
     /// Its octets have digits that a trace has in small letters.
     Capitals,
+    /// Its octets have a digit too much.
+    Halved,
+    /// The site has no such cell, or no such carrier in that.
+    NoPlace,
     /// No message is so in words.
     Message(MessageFault<'a>),
     /// Controllers send no message of this name.
@@ -45,8 +56,12 @@ impl fmt::Display for Never<'_> {
     fn fmt<W: fmt::Write>(&self, f: &mut fmt::Formatter<W>) -> fmt::Result {
         let why = match self {
             Never::Marked => "no such controller: one alone has no mark",
+            Never::Unmarked => "no mark: 1: or 2: stands before it",
             Never::Beginning => "no line of a trace begins so",
+            Never::Line => "no line of a trace is so",
             Never::Capitals => "a trace has octets in small letters",
+            Never::Halved => "an octet has two digits",
+            Never::NoPlace => "the site has no such cell or carrier",
             Never::Message(fault) => return write!(f, "{fault}"),
             Never::Unsent(name) => return write!(f, "controllers send no \"{name}\""),
             Never::Glued => "a blank stands behind ;",
@@ -62,13 +77,21 @@ impl fmt::Display for Never<'_> {
     }
 }
 
-/// A line of a script that says that no line begins with a text, and none ever can.
+/// What a line of a script says of a text.
+#[derive(Clone, Copy, Debug, PartialEq, Eq)]
+pub enum Told<'a> {
+    /// A line comes that is so.
+    Expected(&'a str),
+    /// No line that comes begins so.
+    Refused(&'a str),
+}
+
+/// A line of a script that says that a line comes, or that none does, where none ever can be so.
 #[derive(Clone, Copy, Debug, PartialEq, Eq)]
 pub struct NeverLine<'a> {
     /// Its number, counted from 1.
     pub line: usize,
-    /// The text.
-    pub refused: &'a str,
+    pub told: Told<'a>,
     pub why: Never<'a>,
 }
 
@@ -86,6 +109,7 @@ const LINES: &[&str] = &[
     "none free N",
     "out abis N N ..",
     "out a N ..",
+    "fault abis|a|rr N",
     "fault abis|a|rr N N",
     "end channels=N calls=N references=N timers=N",
 ];
@@ -130,102 +154,177 @@ const EVENTS: &[&str] = &[
 /// The line of a trace that has no mark, also of two controllers.
 const LIMIT: &str = "sim limit";
 
-/// Whether a text has decimal digits alone, and no zero in front of another. There may be none where it is cut.
-pub(crate) fn is_number(text: &str, is_cut: bool) -> bool {
+/// Whether a text is a number: decimal digits alone, and no zero in front of another.
+pub(crate) fn is_number(text: &str) -> bool {
     text.bytes().all(|byte| byte.is_ascii_digit())
-        && (is_cut || !text.is_empty())
+        && !text.is_empty()
         && (text.len() < 2 || !text.starts_with("0"))
 }
 
-/// Whether a text has the digits and slashes of a channel. There may be none where it is cut.
-fn is_channel(text: &str, is_cut: bool) -> bool {
-    text.bytes()
-        .all(|byte| byte.is_ascii_digit() || byte == b'/')
-        && (is_cut || !text.is_empty())
+/// Whether a text is a number, or stands for any.
+fn is_any_number(text: &str) -> bool {
+    text == "*" || is_number(text)
 }
 
-/// What stands behind the front of a word, where a form's word has that front; nothing of it where the word is cut within.
-fn behind_front<'a>(word: &'a str, front: &str, is_cut: bool) -> Option<&'a str> {
-    match word.strip_prefix(front) {
-        Some(rest) => Some(rest),
-        None if is_cut && front.starts_with(word) => Some(""),
-        None => None,
-    }
+/// Whether a text has the numbers of a channel, or the last of them, for which `*` may stand, with slashes between.
+fn is_channel(text: &str) -> bool {
+    text.split('/').all(|part| is_any_number(part))
 }
 
-/// Whether a word is one that a form has in this place. It may be cut where it is the last of its text.
-fn is_word_of(word: &str, form: &str, is_cut: bool) -> bool {
-    form.split('|').any(|one| is_one_word_of(word, one, is_cut))
+/// Whether a word is one that a form has in this place.
+fn is_word_of(word: &str, form: &str) -> bool {
+    word == "*" || form.split('|').any(|one| is_one_word_of(word, one))
 }
 
 /// Whether a word is this one, or of these.
-fn is_one_word_of(word: &str, form: &str, is_cut: bool) -> bool {
+fn is_one_word_of(word: &str, form: &str) -> bool {
     if form == ".." {
         return true;
     }
     if let Some(front) = form.strip_suffix("N") {
-        return behind_front(word, front, is_cut).is_some_and(|rest| is_number(rest, is_cut));
+        return word
+            .strip_prefix(front)
+            .is_some_and(|rest| is_any_number(rest));
     }
     if let Some(front) = form.strip_suffix("C") {
-        return behind_front(word, front, is_cut).is_some_and(|rest| is_channel(rest, is_cut));
+        return word
+            .strip_prefix(front)
+            .is_some_and(|rest| is_channel(rest));
     }
-    behind_front(word, form, is_cut).is_some_and(|rest| rest.is_empty())
+    word == form
 }
 
-/// Whether a line of this form can begin with a text.
-fn can_begin(text: &str, form: &str) -> bool {
+/// How much of a line a text is.
+#[derive(Clone, Copy, Debug, PartialEq, Eq)]
+enum Extent {
+    /// All of it.
+    Whole,
+    /// Its beginning, to the end of a word or between octets.
+    Beginning,
+}
+
+/// Whether a text of so many words can be so much of a line with so many; that may have any number behind them.
+fn fits(words: usize, others: usize, has_more: bool, extent: Extent) -> bool {
+    match extent {
+        Extent::Whole => words == others || (has_more && others < words),
+        Extent::Beginning => has_more || words <= others,
+    }
+}
+
+/// Whether a text is so much of a line of this form.
+fn is_of(text: &str, form: &str, extent: Extent) -> bool {
     let count = text.split(' ').count();
     let last = count.saturating_sub(1);
-    (count <= form.split(' ').count() || form.ends_with(".."))
-        && text.split(' ').zip(form.split(' ')).enumerate().all(|(place, (word, other))| is_word_of(
-            word,
-            other,
-            place == last,
-        ))
+    fits(count, form.split(' ').count(), form.ends_with(".."), extent)
+        && text.split(' ').zip(form.split(' ')).enumerate().all(|(place, (word, other))| {
+            is_word_of(word, other)
+                || (extent == Extent::Beginning && place == last && word.is_empty())
+        })
 }
 
-/// Whether the line of an event can begin with a text.
-fn can_be_event(text: &str) -> bool {
-    match text.strip_prefix("event ") {
-        Some(event) => EVENTS.iter().any(|form| can_begin(event, *form)),
-        None => "event ".starts_with(text),
+/// Whether an event with its reply is so, or begins so; `-> *` ends one that stands for any reply.
+fn is_event(event: &str, extent: Extent) -> bool {
+    match event.strip_suffix("-> *") {
+        Some(asked) => {
+            EVENTS
+                .iter()
+                .any(|form| is_of(asked.trim_end(), *form, Extent::Beginning))
+        }
+        None => EVENTS.iter().any(|form| is_of(event, *form, extent)),
     }
 }
 
-/// Whether a line of a controller can begin with a text, its message left aside.
-fn can_be_line(text: &str) -> bool {
-    can_be_event(text) || LINES.iter().any(|form| can_begin(text, *form))
+/// Whether a text is so much of the line of an event.
+fn can_be_event(text: &str, extent: Extent) -> bool {
+    match text.strip_prefix("event ") {
+        Some(event) => is_event(event, extent),
+        None => text == "event" && extent == Extent::Beginning,
+    }
 }
 
-/// Whether a text begins with the mark of a controller, or with a part of one.
+/// Whether a text is so much of a line of a controller, its message left aside.
+fn can_be_line(text: &str, extent: Extent) -> bool {
+    can_be_event(text, extent) || LINES.iter().any(|form| is_of(text, *form, extent))
+}
+
+/// Whether a text begins with the mark of a controller, or is one.
 fn is_marked(text: &str) -> bool {
-    without_mark(text) != text
-        || (!text.is_empty() && ("1: ".starts_with(text) || "2: ".starts_with(text)))
+    without_mark(text) != text || text == "1:" || text == "2:"
 }
 
-/// Whether no other line of a trace can begin with a text than that of simulators whose answers are too many.
-fn is_limit(text: &str) -> bool {
-    !text.is_empty() && LIMIT.starts_with(text)
+/// Whether no other line of a trace is so than that of simulators whose answers are too many, or begins so.
+fn is_limit(text: &str, extent: Extent) -> bool {
+    !text.is_empty() && is_of(text, LIMIT, extent)
+}
+
+/// Whether a site has the cell and the carrier that a line without its mark names.
+fn has_place<A: Allocator + Copy>(site: &Site<A>, line: &str) -> bool {
+    let Some(place) = line.strip_prefix("out abis ") else {
+        return true;
+    };
+    let mut numbers = place.split(' ').map(|word| word.parse::<u8>().ok());
+    match (numbers.next().flatten(), numbers.next().flatten()) {
+        (Some(cell), Some(trx)) => site.trx(cell).is_some_and(|count| trx < count),
+        (Some(cell), None) => site.trx(cell).is_some(),
+        (None, _) => true,
+    }
+}
+
+/// Whether the site of a controller that a line may be of has the place that this names.
+fn have_place<A: Allocator + Copy>(sites: &Sites<A>, text: &str) -> bool {
+    let line = without_mark(text);
+    let first = has_place(&sites.first, line);
+    match &sites.peer {
+        None => first,
+        Some(_) if text.starts_with("1: ") => first,
+        Some(peer) if text.starts_with("2: ") => has_place(peer, line),
+        Some(peer) => first || has_place(peer, line),
+    }
+}
+
+/// Whether a text has a mark, or none, as is wanted where there are so many controllers; why not.
+fn mark_fault(text: &str, has_peer: bool, extent: Extent) -> Option<Never<'_>> {
+    if is_marked(text) && !has_peer {
+        Some(Never::Marked)
+    } else if has_peer && extent == Extent::Whole && without_mark(text) == text {
+        Some(Never::Unmarked)
+    } else {
+        None
+    }
+}
+
+/// That so much of no line of a trace is a text.
+fn no_line(extent: Extent) -> Never<'static> {
+    match extent {
+        Extent::Whole => Never::Line,
+        Extent::Beginning => Never::Beginning,
+    }
 }
 
 /// Why no line that comes of one controller, or of two, can be as a text says; nothing where one can.
-fn why_never<A: Allocator + Copy>(
+fn why_never<'a, A: Allocator + Copy>(
     alloc: A,
-    text: &str,
-    has_peer: bool,
-) -> Result<Option<Never<'_>>, AllocError> {
-    let is_marked = is_marked(text);
-    if is_marked && !has_peer {
-        return Ok(Some(Never::Marked));
-    }
-    let line = without_mark(text);
-    if (is_marked && line == text) || (!is_marked && can_begin(text, LIMIT)) {
+    text: &'a str,
+    sites: &Sites<A>,
+    extent: Extent,
+) -> Result<Option<Never<'a>>, AllocError> {
+    if is_limit(text, extent) {
         return Ok(None);
     }
-    if !can_be_line(line) {
-        return Ok(Some(Never::Beginning));
+    if let Some(fault) = mark_fault(text, sites.peer.is_some(), extent) {
+        return Ok(Some(fault));
     }
-    why_no_message(alloc, line)
+    let line = without_mark(text);
+    if extent == Extent::Beginning && (text.is_empty() || (is_marked(text) && line == text)) {
+        return Ok(None);
+    }
+    if !can_be_line(line, extent) {
+        return Ok(Some(no_line(extent)));
+    }
+    match why_no_message(alloc, line, extent == Extent::Beginning)? {
+        None if !have_place(sites, text) => Ok(Some(Never::NoPlace)),
+        fault => Ok(fault),
+    }
 }
 
 /// Whether nothing ever comes of a line of a script: it asks something of what is simulated.
@@ -294,28 +393,42 @@ struct Before<'a> {
 fn why_never_behind<'a, A: Allocator + Copy>(
     alloc: A,
     text: &'a str,
-    has_peer: bool,
+    sites: &Sites<A>,
+    extent: Extent,
     before: Before<'_>,
 ) -> Result<Option<Never<'a>>, AllocError> {
     match before.line {
         None if !before.is_last => Ok(Some(Never::First)),
         Some(line) if is_silent(line) && !before.is_last => Ok(Some(Never::Silent)),
-        Some(_) if without_mark(text).starts_with("en") && !before.is_last => {
+        Some(_) if without_mark(text).starts_with("end") && !before.is_last => {
             Ok(Some(Never::End))
         }
-        Some(_) | None if is_limit(text) && !before.has_simulators => {
+        Some(_) | None if is_limit(text, extent) && !before.has_simulators => {
             Ok(Some(Never::NoSimulators))
         }
-        Some(_) | None => why_never(alloc, text, has_peer),
+        Some(_) | None => why_never(alloc, text, sites, extent),
     }
 }
 
-/// The lines of a script, for one controller or two, that say that no line begins with a text, and none ever can: so a test
-/// could never miss them. Each has its reason.
+/// What a line of a script says of a text, and how much of a line that is; nothing where it says nothing, or stands for any lines.
+fn told_in(line: &str) -> Option<(Told<'_>, &str, Extent)> {
+    if let Some(refused) = refused_in(line) {
+        return Some((Told::Refused(refused), refused, Extent::Beginning));
+    }
+    match expected_in(line) {
+        Some(expected) if !is_any(expected) => {
+            Some((Told::Expected(expected), expected, Extent::Whole))
+        }
+        Some(_) | None => None,
+    }
+}
+
+/// The lines of a script over these sites that say that a line comes, or that none begins so, where none ever can be so: so nothing
+/// could meet them, or miss them. Each has its reason.
 pub fn never_lines<'a, A: Allocator + Copy>(
     alloc: A,
     script: &'a str,
-    has_peer: bool,
+    sites: &Sites<A>,
 ) -> Result<Vec<NeverLine<'a>, A>, AllocError> {
     let mut found = Vec::new(alloc);
     let last = last_place(script);
@@ -332,11 +445,11 @@ pub fn never_lines<'a, A: Allocator + Copy>(
                 is_last: last == Some(place),
                 has_simulators: before.has_simulators || attaches(line),
             };
-        } else if let Some(refused) = refused_in(line)
-            && let Some(why) = why_never_behind(alloc, refused, has_peer, before)?
+        } else if let Some((told, text, extent)) = told_in(line)
+            && let Some(why) = why_never_behind(alloc, text, sites, extent, before)?
         {
             let line = place.saturating_add(1);
-            found.push(NeverLine { line, refused, why })?;
+            found.push(NeverLine { line, told, why })?;
         }
     }
     Ok(found)

@@ -6,6 +6,7 @@ use encoded_messages::{
     name_and_fields, value,
 };
 use exchange::Inbound;
+use expectations::begins_words;
 use explanations::{LinkName, cause_name};
 use line_words::{Content, content_of};
 use octet_elements::Octets;
@@ -17,7 +18,7 @@ fn word_fault<'a>(form: MessageForm<'static>, word: &'a str) -> Option<Never<'a>
     if let Some((key, value)) = word.split_once('=')
         && let Some(field) = form.fields.iter().find(|field| field.0 == key)
     {
-        return value_fault(*field, value, false);
+        return value_fault(*field, value);
     }
     Some(Never::Message(MessageFault::Field(FieldFault::Unknown(word))))
 }
@@ -43,11 +44,11 @@ fn field_at(form: MessageForm<'static>, place: usize) -> Option<FieldForm<'stati
     }
 }
 
-/// Whether a word is this field, or begins it, where it is the last of its text.
+/// Whether a word is this field. The last of a text may be none yet.
 fn begins_field(word: &str, field: FieldForm<'static>, is_last: bool) -> bool {
     match word.split_once('=') {
-        Some((key, value)) => key == field.0 && value_fault(field, value, is_last).is_none(),
-        None => is_last && field.0.starts_with(word),
+        Some((key, value)) => key == field.0 && value_fault(field, value).is_none(),
+        None => is_last && word.is_empty(),
     }
 }
 
@@ -59,13 +60,13 @@ fn begin_fields(form: MessageForm<'static>, fields: &str) -> bool {
     ))
 }
 
-/// Whether a message of this form, as it is printed, can begin with a text.
+/// Whether a message of this form, as it is printed, can begin with a text that ends a word.
 fn can_begin(form: MessageForm<'static>, part: &str) -> bool {
     match part.strip_prefix(form.name) {
         Some(rest) => rest
             .strip_prefix(" ")
             .is_some_and(|fields| begin_fields(form, fields)),
-        None => form.name.starts_with(part),
+        None => begins_words(form.name, part),
     }
 }
 
@@ -103,7 +104,7 @@ fn part_fault<'a>(
 
 /// Whether a part is one of these names; or begins it, where it may be cut.
 fn is_named(part: &str, name: &str, may_be_cut: bool) -> bool {
-    part == name || (may_be_cut && name.starts_with(part))
+    part == name || (may_be_cut && begins_words(name, part))
 }
 
 /// The discriminators of the messages on Abis (TS 48.058 clause 9.1).
@@ -329,13 +330,19 @@ fn is_whole(form: Option<MessageForm<'static>>, fields: &str) -> bool {
 }
 
 /// What is wrong with the parts behind the first, which is this one.
-fn inners_fault<'a>(way: Way, link: LinkName, first: &str, parts: &'a str) -> Option<Never<'a>> {
+fn inners_fault<'a>(
+    way: Way,
+    link: LinkName,
+    first: &str,
+    parts: &'a str,
+    may_be_cut: bool,
+) -> Option<Never<'a>> {
     let (name, fields) = name_and_fields(first);
     let form = form_named(forms_of(link), name);
-    let is_whole = is_whole(form, fields);
+    let may_be_cut = may_be_cut && is_whole(form, fields);
     let last = parts.split(';').count().saturating_sub(1);
     for (place, part) in parts.split(';').enumerate() {
-        if let Some(fault) = inner_fault(way, form, part, is_whole && place == last) {
+        if let Some(fault) = inner_fault(way, form, part, may_be_cut && place == last) {
             return Some(fault);
         }
     }
@@ -348,12 +355,13 @@ fn words_fault<'a, A: Allocator + Copy>(
     way: Way,
     link: LinkName,
     words: &'a str,
+    may_be_cut: bool,
 ) -> Result<Option<Never<'a>>, AllocError> {
     let Some((first, others)) = words.split_once(';') else {
-        return outer_fault(alloc, way, link, words, true);
+        return outer_fault(alloc, way, link, words, may_be_cut);
     };
     match outer_fault(alloc, way, link, first, false)? {
-        None => Ok(inners_fault(way, link, first, others)),
+        None => Ok(inners_fault(way, link, first, others, may_be_cut)),
         fault => Ok(fault),
     }
 }
@@ -392,30 +400,41 @@ fn is_any_hex(text: &str) -> bool {
     text.bytes().all(|byte| byte.is_ascii_hexdigit())
 }
 
+/// Whether a text without a mark is a message whose octets stand in it, or the first of them.
+pub(crate) fn is_in_octets(text: &str) -> bool {
+    match message_in(text) {
+        Some((_, octets)) => !octets.is_empty() && is_hex(octets),
+        None => false,
+    }
+}
+
 /// Why no line of a link can have what stands behind its place, which isn't octets as a trace has them.
 fn why_not_said<'a, A: Allocator + Copy>(
     alloc: A,
     way: Way,
     link: LinkName,
     words: &'a str,
+    may_be_cut: bool,
 ) -> Result<Option<Never<'a>>, AllocError> {
-    match words_fault(alloc, way, link, words)? {
+    match words_fault(alloc, way, link, words, may_be_cut)? {
         Some(_) if is_any_hex(words) => Ok(Some(Never::Capitals)),
         fault => Ok(fault),
     }
 }
 
 /// Why no line can have the message of this one, which begins as one of a trace does, without its mark; nothing where none stands
-/// there yet, or such a message can come.
+/// there yet, or such a message can come. Where it may be cut it ends behind a word, or between octets.
 pub(crate) fn why_no_message<'a, A: Allocator + Copy>(
     alloc: A,
     line: &'a str,
+    may_be_cut: bool,
 ) -> Result<Option<Never<'a>>, AllocError> {
     let Some(way) = way_of(line) else {
         return Ok(None);
     };
     match message_in(line) {
-        Some((link, words)) if !is_hex(words) => why_not_said(alloc, way, link, words),
+        Some((link, words)) if !is_hex(words) => why_not_said(alloc, way, link, words, may_be_cut),
+        Some((_, octets)) if octets.len() % 2 != 0 => Ok(Some(Never::Halved)),
         Some(_) | None => Ok(None),
     }
 }

@@ -10,78 +10,72 @@ fn is_at_most(text: &str, most: u16) -> bool {
     }
 }
 
-/// Whether a text is a number up to this one, as it is printed; or begins one, where it is cut.
-fn is_number_to(text: &str, most: u16, is_cut: bool) -> bool {
-    is_number(text, is_cut) && (text.is_empty() || is_at_most(text, most))
+/// Whether a text is a number up to this one, as it is printed, or stands for any.
+fn is_number_to(text: &str, most: u16) -> bool {
+    text == "*" || (is_number(text) && is_at_most(text, most))
 }
 
 /// Whether a text is a timeslot, or one of its halves.
-fn is_traffic_channel(text: &str, is_cut: bool) -> bool {
+fn is_traffic_channel(text: &str) -> bool {
     match text.split_once('/') {
-        Some((timeslot, half)) => is_number_to(timeslot, 7, false) && is_number_to(half, 1, is_cut),
-        None => is_number_to(text, 7, is_cut),
+        Some((timeslot, half)) => is_number_to(timeslot, 7) && is_number_to(half, 1),
+        None => is_number_to(text, 7),
     }
 }
 
 /// Whether a text is a location area code, or that there is none.
-fn is_area(text: &str, is_cut: bool) -> bool {
-    text == "-" || is_number_to(text, u16::MAX, is_cut)
+fn is_area(text: &str) -> bool {
+    text == "-" || is_number_to(text, u16::MAX)
 }
 
 /// Whether a text is a cell with its location area.
-fn is_cell(text: &str, is_cut: bool) -> bool {
+fn is_cell(text: &str) -> bool {
     match text.split_once('/') {
-        Some((area, identity)) => is_area(area, false) && is_number_to(identity, u16::MAX, is_cut),
-        None => is_cut && is_area(text, true),
+        Some((area, identity)) => is_area(area) && is_number_to(identity, u16::MAX),
+        None => false,
     }
 }
 
 /// Whether a text is cells, or none.
-fn are_cells(text: &str, is_cut: bool) -> bool {
-    let last = text.split(',').count().saturating_sub(1);
-    text.is_empty()
-        || text
-            .split(',')
-            .enumerate()
-            .all(|(place, cell)| is_cell(cell, is_cut && place == last))
+fn are_cells(text: &str) -> bool {
+    text.is_empty() || text.split(',').all(|cell| is_cell(cell))
 }
 
 /// Whether a text is the position and the code of a neighbour.
-fn is_named(text: &str, is_cut: bool) -> bool {
+fn is_named(text: &str) -> bool {
     match text.split_once('/') {
-        Some((position, code)) => is_number_to(position, 31, false)
-            && is_number_to(code, 63, is_cut),
-        None => is_cut && is_number_to(text, 31, true),
+        Some((position, code)) => is_number_to(position, 31) && is_number_to(code, 63),
+        None => false,
     }
 }
 
 /// Whether a text is what was measured of a neighbour.
-fn is_neighbour(text: &str, is_cut: bool) -> bool {
+fn is_neighbour(text: &str) -> bool {
     match text.split_once('/') {
-        Some((level, rest)) => is_number_to(level, 63, false) && is_named(rest, is_cut),
-        None => is_cut && is_number_to(text, 63, true),
+        Some((level, rest)) => is_number_to(level, 63) && is_named(rest),
+        None => false,
     }
 }
 
 /// Whether a text is octets, or none, with digits in either case.
-fn are_octets(text: &str, is_cut: bool) -> bool {
-    text.bytes().all(|byte| byte.is_ascii_hexdigit()) && (is_cut || text.len() % 2 == 0)
+fn are_octets(text: &str) -> bool {
+    text.bytes().all(|byte| byte.is_ascii_hexdigit()) && text.len() % 2 == 0
 }
 
-/// Whether a field that may have such values can be printed with this one, or with one that begins so, where it is cut. The
-/// digits of octets may be capitals here.
-fn can_be(allowed: Allowed, value: &str, is_cut: bool) -> bool {
+/// Whether a field that may have such values can be printed with this one. The digits of octets may be
+/// capitals here, and some may be missing behind them.
+fn can_be(allowed: Allowed, value: &str) -> bool {
     match allowed {
-        Allowed::Number(most) => is_number_to(value, most, is_cut),
-        Allowed::Cause => is_number_to(value, 255, is_cut),
-        Allowed::OptionalOctet => value == "-" || is_number_to(value, 255, is_cut),
-        Allowed::TrafficChannel => is_traffic_channel(value, is_cut),
-        Allowed::Flag => is_number_to(value, 1, is_cut),
-        Allowed::Octets(_) => are_octets(value, is_cut),
-        Allowed::OptionalOctets(_) => value == "-" || are_octets(value, is_cut),
-        Allowed::Cell => is_cell(value, is_cut),
-        Allowed::Cells => are_cells(value, is_cut),
-        Allowed::Neighbour => is_neighbour(value, is_cut),
+        Allowed::Number(most) => is_number_to(value, most),
+        Allowed::Cause => is_number_to(value, 255),
+        Allowed::OptionalOctet => value == "-" || is_number_to(value, 255),
+        Allowed::TrafficChannel => is_traffic_channel(value),
+        Allowed::Flag => is_number_to(value, 1),
+        Allowed::Octets(_) => are_octets(value),
+        Allowed::OptionalOctets(_) => value == "-" || are_octets(value),
+        Allowed::Cell => is_cell(value),
+        Allowed::Cells => are_cells(value),
+        Allowed::Neighbour => is_neighbour(value),
     }
 }
 
@@ -100,14 +94,13 @@ fn has_octets(allowed: Allowed) -> bool {
     }
 }
 
-/// Why no field is printed with this value; nothing where one may be. It may begin one, where it is cut.
-pub(crate) fn value_fault<'a>(
-    field: FieldForm<'static>,
-    value: &'a str,
-    is_cut: bool,
-) -> Option<Never<'a>> {
+/// Why no field is printed with this value; nothing where one may be. Of octets it may have the first alone.
+pub(crate) fn value_fault<'a>(field: FieldForm<'static>, value: &'a str) -> Option<Never<'a>> {
     let FieldForm(key, allowed) = field;
-    if !can_be(allowed, value, is_cut) {
+    if value == "*" {
+        return None;
+    }
+    if !can_be(allowed, value) {
         return Some(Never::Message(MessageFault::Field(FieldFault::Value {
             key,
             value,

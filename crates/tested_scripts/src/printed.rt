@@ -2,6 +2,7 @@
 //!
 //! No clause says what is printed: that is shown by tests.
 use crate::compare::CameLine;
+use crate::nearest::Nearest;
 use screen_text::{Escaped, end_of};
 use std::fmt;
 use std::io::{self, Write};
@@ -46,6 +47,8 @@ pub enum Miss<'a> {
     },
     /// The script says nothing of what comes.
     Nothing,
+    /// A line of the script, counted from 1, looks like an expectation, and isn't one.
+    Slipped(usize),
     /// A line of the script, counted from 1, asks something of a station or a mobile that comes to nothing.
     Idle(usize),
     /// A line of the script, counted from 1, can't be read.
@@ -87,6 +90,43 @@ fn print_against<W: Write>(
     writeln!(out, "# came: {}", Escaped(came))
 }
 
+/// Prints that a line of the script, counted from 1, expects a line that isn't among so many that came; the one of these that is
+/// nearest to it, if one is of its kind, and what differs first.
+pub(crate) fn print_missing<W: Write>(
+    out: &mut W,
+    line: usize,
+    expected: &str,
+    nearest: Option<Nearest<'_, '_>>,
+    count: usize,
+) -> io::Result<()> {
+    writeln!(out, "# line {line}")?;
+    print_side(out, "expected", Some(expected))?;
+    let Some(
+        Nearest {
+            came,
+            expected,
+            found,
+        },
+    ) = nearest
+    else {
+        return writeln!(out, "# came none of its kind, {count} others");
+    };
+    print_side(out, "came", Some(came))?;
+    match found {
+        Some(found) => writeln!(
+            out,
+            "# nearest of the {count} that came: {}, not {}",
+            Escaped(found),
+            Escaped(expected)
+        ),
+        None => writeln!(
+            out,
+            "# nearest of the {count} that came: no {}",
+            Escaped(expected)
+        ),
+    }
+}
+
 /// Prints why a test isn't met.
 pub fn print_reason<W: Write>(out: &mut W, miss: Miss<'_>) -> io::Result<()> {
     match miss {
@@ -110,6 +150,12 @@ pub fn print_reason<W: Write>(out: &mut W, miss: Miss<'_>) -> io::Result<()> {
             held,
         } => print_against(out, line, ("expected", expected), held),
         Miss::Nothing => writeln!(out, "# nothing is expected"),
+        Miss::Slipped(line) => {
+            writeln!(
+                out,
+                "# line {line} looks like an expectation, but isn't one"
+            )
+        }
         Miss::Idle(line) => writeln!(out, "# line {line} comes to nothing"),
         Miss::Unreadable(line) => writeln!(out, "# line {line} can't be read"),
         Miss::NoFile => writeln!(out, "# the file can't be read"),

@@ -11,11 +11,12 @@ ghost use Rattle.lab_runs.specs.Sites as sites_said;
 ghost use Rattle.tested_scripts.specs.Tests as said;
 
 use crate::came::came_lines;
-use crate::compare::{CameLine, Difference, find_difference, find_last_difference};
+use crate::compare::{CameLine, Difference, find_difference, find_last_difference, first_behind};
 use crate::heard::{Came, PartListener, run_heard};
 use crate::lines::{expected_in, is_any, lines_of, part_end, says_something};
 use crate::misses::{expect_held, has_broken, holds_all, print_all_unheld, print_broken};
-use crate::printed::{Miss, print_met, print_miss, print_not_met, print_reason};
+use crate::nearest::{nearest_to, shown};
+use crate::printed::{Miss, print_met, print_miss, print_missing, print_not_met, print_reason};
 use lab_runs::run::{Sites, Status, read_sites, refuse_site};
 use lab_script::script::{ScriptFault, read_script};
 use run_listeners::{LabFault, Printing};
@@ -81,54 +82,55 @@ fn is_any_before(lines: &[&str]) -> bool {
     }
 }
 
-/// The line that came where a part differs: behind `..`, which takes all that came, the last of them.
-fn came_at<'a>(
-    part: &[&str],
-    came: &[CameLine<'a>],
-    difference: Difference,
-) -> Option<CameLine<'a>> {
-    let (before, _) = part.split_at(difference.line.min(part.len()));
-    match came.get(difference.came) {
-        Some(line) => Some(*line),
-        None if is_any_before(before) => came.last().copied(),
-        None => None,
+/// Prints which line is expected behind any lines and isn't among those that came, which are these.
+fn print_not_among<W: Write>(
+    out: &mut W,
+    line: usize,
+    expected: &str,
+    came: &[CameLine<'_>],
+) -> Result<(), LabFault> {
+    if came.is_empty() {
+        let miss = Miss::Differs {
+            line,
+            expected: Some(expected),
+            came: None,
+        };
+        return Ok(print_reason(out, miss)?);
     }
-}
-
-/// Whether a text that is expected is that of a message in words: behind its link, its place and a blank stands a capital
-/// letter.
-fn is_in_words(expected: &str) -> bool {
-    expected.split(' ').any(|word| word
-        .bytes()
-        .next()
-        .is_some_and(|first| first.is_ascii_uppercase()))
-}
-
-/// A line that came, as it is shown beside what is expected: in words where that is.
-fn shown<'a>(line: CameLine<'a>, expected: Option<&str>) -> &'a str {
-    match expected {
-        Some(expected) if is_in_words(expected) && !line.words.is_empty() => line.words,
-        _ => line.text,
-    }
+    let nearest = nearest_to(came, expected);
+    Ok(print_missing(out, line, expected, nearest, came.len())?)
 }
 
 /// Prints where a part, which begins behind so many lines of the script, differs from what came of it.
-fn print_difference<W: Write>(
+fn print_difference<A: Allocator + Copy, W: Write>(
+    alloc: A,
     out: &mut W,
     before: usize,
     part: &[&str],
     came: &[CameLine<'_>],
     difference: Difference,
 ) -> Result<(), LabFault> {
+    let line = number_of(part, before, difference);
     let expected = part
         .get(difference.line)
         .and_then(|line| expected_in(*line));
-    let miss = Miss::Differs {
-        line: number_of(part, before, difference),
-        expected,
-        came: came_at(part, came, difference).map(|line| shown(line, expected)),
-    };
-    Ok(print_reason(out, miss)?)
+    let (met, _) = part.split_at(difference.line.min(part.len()));
+    match expected {
+        Some(expected) if is_any_before(met) => {
+            let place = first_behind(alloc, met, came)?;
+            let (_, behind) = came.split_at(place.min(came.len()));
+            print_not_among(out, line, expected, behind)
+        }
+        Some(_) | None => {
+            let came = came.get(difference.came).map(|line| shown(*line, expected));
+            let miss = Miss::Differs {
+                line,
+                expected,
+                came,
+            };
+            Ok(print_reason(out, miss)?)
+        }
+    }
 }
 
 impl<W: Write, A: Allocator + Copy> Tester<'_, W, A> {
@@ -161,7 +163,7 @@ impl<W: Write, A: Allocator + Copy> Tester<'_, W, A> {
             return Ok(());
         };
         self.miss()?;
-        print_difference(self.out, self.place, part, came, difference)?;
+        print_difference(self.alloc, self.out, self.place, part, came, difference)?;
         Ok(())
     }
 

@@ -3,7 +3,7 @@ use super::failing::Failing;
 use super::{ONE_CALL, SITE, equals_at, holds_at, remove_files, write_files};
 use lab::LabFault;
 use lab::files::run_files;
-use lab::site_files::SitePaths;
+use lab::site_files::GivenPaths;
 use lab::words::Ending;
 use std::fs;
 use std::process::Abort;
@@ -33,8 +33,8 @@ const ALL: Views<'_> = Views {
 };
 
 /// The site alone.
-const PATHS: SitePaths<'_> = SitePaths {
-    first: SITE_FILE,
+const PATHS: GivenPaths<'_> = GivenPaths {
+    first: Some(SITE_FILE),
     peer: None,
 };
 

@@ -10,7 +10,9 @@ went_well (Ok x) P is_ok so = so
 went_well (Err e) P is_ok so = absurd cc
 
 pub returns : goal.returns
-returns g c = record { handled = λ done.
-    let ended = subst (λ r. IfOk r (λ status. c.ended_live.result ≡ Ok status)) done c.ended_viewed.ensures.ended in
-    let ran = went_well c.live_run-ended.result _ (c.in_ok-ended.ensures.ended (c.ended_live.ensures.done ended)) c.live_run-ended.ensures.handled in
-    subst (λ sims. IfSome (g.I.Read.remaining c.args.reader.now) (λ octets. Played Global c.args.opened.book (items_from {A = Global} sims false octets))) c.rules_behind-rules.ensures.sims ran }
+returns g c = record {
+  handled = λ done.
+      let ended = subst (λ r. IfOk r (λ status. c.ended_live.result ≡ Ok status)) done c.ended_viewed.ensures.ended in
+      let ran = went_well c.live_run-ended.result _ (c.in_ok-ended.ensures.ended (c.ended_live.ensures.done ended)) c.live_run-ended.ensures.handled in
+      subst (λ sims. IfSome (g.I.Read.remaining c.args.reader.now) (λ octets. Played Global c.args.opened.book (items_from {A = Global} sims false octets))) c.rules_behind-rules.ensures.sims ran;
+}
