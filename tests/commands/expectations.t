@@ -915,11 +915,11 @@ So is what looks as if it named a site.
   # line 4 looks like an expectation, but isn't one
   [1]
   $ cat errors
-  script.txt:1: names nothing: "#% site PATH" and "#% peer PATH" name sites
-  script.txt:2: names nothing: "#% site PATH" and "#% peer PATH" name sites
-  script.txt:3: names nothing: "#% site PATH" and "#% peer PATH" name sites
-  script.txt:4: names nothing: "#% site PATH" and "#% peer PATH" name sites
-  script.txt:5: names nothing: "#% site PATH" and "#% peer PATH" name sites
+  script.txt:1: names nothing: "#% site PATH", "#% peer PATH" and "#% cells N full" name sites
+  script.txt:2: names nothing: "#% site PATH", "#% peer PATH" and "#% cells N full" name sites
+  script.txt:3: names nothing: "#% site PATH", "#% peer PATH" and "#% cells N full" name sites
+  script.txt:4: names nothing: "#% site PATH", "#% peer PATH" and "#% cells N full" name sites
+  script.txt:5: names nothing: "#% site PATH", "#% peer PATH" and "#% cells N full" name sites
 
 A carriage return that ends no line is told.
 

@@ -15,6 +15,22 @@ Another of the same name is expected, and so is a report of the serving channel.
   in abis 0 0 0822010b080000 # call 1; CHANNEL ACTIVATION ACK tn=3 frame=0; ignored: this stage doesn't expect it
   in abis 0 0 0302010b02000b0003062c00 # call 1; DATA INDICATION tn=3 link=0 layer3=062c00; HANDOVER COMPLETE cause=0; normal event; ignored: this stage doesn't expect it
   in a 1 000c131709062bd5670ba36b2a05 # call 1; HANDOVER COMMAND layer3=062bd5670ba36b2a05; HANDOVER COMMAND arfcn=871 ncc=2 bcc=5 tn=3 tsc=5 carrier=875 reference=42 atc=0 power=5; ignored: this stage doesn't expect it
+A message about a channel that the site lacks: another timeslot, another TRX, a half where there are none, another cell.
+
+  $ cat >script.txt <<'END'
+  > abis 0 0 CHANNEL ACTIVATION ACK tn=5 frame=0
+  > abis 0 1 CHANNEL ACTIVATION NACK tn=3 cause=32
+  > abis 0 0 HANDOVER DETECTION tn=3/0 delay=0
+  > abis 9 0 RF CHANNEL RELEASE ACK tn=3
+  > abis 0 0 RF CHANNEL RELEASE ACK tn=3
+  > END
+  $ ./lab run examples/two_cells.toml script.txt --words | grep '^in a' | sed 's/.*; //'
+  ignored: no such channel
+  ignored: no such channel
+  ignored: no such channel
+  ignored: no such channel
+  ignored: this stage doesn't expect it
+
 An operator's line or a timer of which nothing comes: the book's reply says why.
 
   $ cat >script.txt <<'END'

@@ -167,3 +167,85 @@ What run says of a script is said of it, too: lines that come to nothing, and a 
   script.txt:5: nothing comes of it: there is no call 2
   $ ./lab run examples/two_cells.toml script.txt 2>said >/dev/null
   $ ./lab record examples/two_cells.toml script.txt 2>&1 >/dev/null | cmp - said
+
+With `--accept LINE` what came at one line of the script is taken, or at the one that this line stands behind. All other lines stay.
+
+  $ cat >script.txt <<'END'
+  > # Two calls.
+  > open 1 0 0 3
+  > #> event open 1 0/0/3 -> refused 4
+  > #> ..
+  > 
+  > # The second.
+  > open 2 0 0 2
+  > #> ..
+  > #! out a
+  > END
+  $ ./lab record examples/two_cells.toml script.txt --accept 2 | tee accepted.txt
+  # Two calls.
+  open 1 0 0 3
+  #> in open 1 0 0 3
+  #> event open 1 0/0/3 -> done
+  #> out abis 0 0 0821010b0300060400010801
+  
+  # The second.
+  open 2 0 0 2
+  #> ..
+  #! out a
+  $ for line in 3 4 5 6; do ./lab record examples/two_cells.toml script.txt --accept $line | cmp - accepted.txt; done
+  $ ./lab record examples/two_cells.toml script.txt --accept 6 --words --states | sed -n 3,6p
+  #> event open 1 0/0/3 -> done
+  #> out abis 0 0 CHANNEL ACTIVATION tn=3 activation=0 mode=00010801 reference=-
+  #= channels 0/0/3
+  #= call 1 0/0/3
+  $ ./lab record examples/two_cells.toml script.txt --accept 9
+  # Two calls.
+  open 1 0 0 3
+  #> event open 1 0/0/3 -> refused 4
+  #> ..
+  
+  # The second.
+  open 2 0 0 2
+  #> in open 2 0 0 2
+  #> event open 2 0/0/2 -> done
+  #> out abis 0 0 0821010a0300060400010801
+  #> end channels=2 calls=2 references=0 timers=0
+  #! out a
+  $ ./lab record examples/two_cells.toml script.txt --accept 1 | cmp - script.txt
+
+So it is where what came is taken at one place after another: that is the record of the whole.
+
+  $ cp script.txt taken.txt
+  $ for line in 7 2; do
+  >   ./lab record examples/two_cells.toml taken.txt --accept $line >next.txt
+  >   mv next.txt taken.txt
+  > done
+  $ ./lab record examples/two_cells.toml script.txt | cmp - taken.txt
+  $ ./lab test examples/two_cells.toml taken.txt
+  1..1
+  ok 1 - taken.txt
+
+The last line gets a line feed only where comments follow it.
+
+  $ printf 'open 1 0 0 3\n#> ..\nclear 1' >cut.txt
+  $ ./lab record examples/two_cells.toml cut.txt --accept 1 2>/dev/null
+  open 1 0 0 3
+  #> in open 1 0 0 3
+  #> event open 1 0/0/3 -> done
+  #> out abis 0 0 0821010b0300060400010801
+  clear 1 (no-eol)
+  $ ./lab record examples/two_cells.toml cut.txt --accept 3 2>/dev/null | head -n 4
+  open 1 0 0 3
+  #> ..
+  clear 1
+  #> in clear 1
+
+A line that the script lacks is refused.
+
+  $ ./lab record examples/two_cells.toml script.txt --accept 10
+  script.txt:10: the script has 9 lines
+  line 10
+  [2]
+  $ ./lab record examples/two_cells.toml script.txt --accept 0
+  error: *'0'*'--accept <LINE>'*; LINE is a number from 1 on* (glob)
+  [2]

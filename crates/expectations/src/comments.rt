@@ -9,6 +9,9 @@ pub struct Recording {
     pub words: bool,
     /// Behind the lines that came stands what the books hold.
     pub states: bool,
+    /// The line of the script, counted from 1, where alone that is recorded: one that gives something, or a comment or blank line
+    /// behind it. `None` where all is recorded.
+    pub only: Option<usize>,
 }
 
 /// The text with which no line that came begins: what stands behind `#! `.
@@ -39,6 +42,13 @@ pub fn peer_in(line: &str) -> Option<&str>
     line.strip_prefix("#% peer ")
 }
 
+/// Which cells the site has over which a script is run, where the script says that itself: what stands behind `#% cells `.
+pub fn cells_in(line: &str) -> Option<&str>
+    ensures cells { option_map (λ text. text.now) result ≡ said.behind (codes "#% cells ") line.now }
+{
+    line.strip_prefix("#% cells ")
+}
+
 /// Whether a comment says something to a test: what comes, what doesn't, what the books hold, or over which sites it is run.
 fn is_mark(line: &str) -> bool
     ensures { result ≡ said.is_mark line.now }
@@ -48,6 +58,7 @@ fn is_mark(line: &str) -> bool
         || held_in(line).is_some()
         || site_in(line).is_some()
         || peer_in(line).is_some()
+        || cells_in(line).is_some()
 }
 
 /// What stands behind the number signs, blanks and tabs that begin a text.
@@ -61,11 +72,11 @@ fn behind_signs(text: &[u8]) -> &[u8]
     rest
 }
 
-/// Whether a text begins as the name of a site does behind `%`, or of a peer's.
+/// Whether a text begins as what names a site does behind `%`, or a peer's.
 fn begins_as_site(text: &[u8]) -> bool
     ensures { result ≡ said.begins_as_site text.now }
 {
-    text.starts_with(b"site") || text.starts_with(b"peer")
+    text.starts_with(b"site") || text.starts_with(b"peer") || text.starts_with(b"cells")
 }
 
 /// Whether a text begins as a mark does behind `#`. Five equal signs begin a ruler.
@@ -81,7 +92,7 @@ fn begins_as_mark(text: &[u8]) -> bool
 }
 
 /// Whether a comment looks like one that says something to a test, and isn't one: number signs, blanks and tabs in front dropped,
-/// it begins with `>`, `!`, `=`, `% site` or `% peer`. Five equal signs begin a ruler.
+/// it begins with `>`, `!`, `=`, `% site`, `% peer` or `% cells`. Five equal signs begin a ruler.
 pub fn is_slipped(line: &str) -> bool
     ensures slipped { result ≡ said.is_slipped line.now }
 {
@@ -96,7 +107,7 @@ fn begins_with_letter(text: &str) -> bool {
     }
 }
 
-/// Whether a comment looks like one that was to name a site, and names neither that nor a peer's: `#%`, and a word.
+/// Whether a comment looks like one that was to name a site, and names neither that, nor a peer's, nor its cells: `#%`, and a word.
 ///
 /// No clause says which do: nothing but a line for a person hangs on it.
 pub fn names_no_site(line: &str) -> bool {
@@ -105,6 +116,7 @@ pub fn names_no_site(line: &str) -> bool {
             begins_with_letter(text.trim_start())
                 && site_in(line).is_none()
                 && peer_in(line).is_none()
+                && cells_in(line).is_none()
         }
         None => false,
     }

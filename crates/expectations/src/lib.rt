@@ -11,7 +11,9 @@ mod slots;
 mod stars;
 mod words;
 
-pub use comments::{Recording, held_in, is_slipped, names_no_site, peer_in, refused_in, site_in};
+pub use comments::{
+    Recording, cells_in, held_in, is_slipped, names_no_site, peer_in, refused_in, site_in,
+};
 pub use ends::begins_words;
 pub use held::{Answered, answer_to, is_answered, print_expected};
 pub use in_words::{are_in_words, is_met_by, is_refused_by};

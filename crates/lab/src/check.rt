@@ -1,7 +1,7 @@
 //! A site as it was read, and what is surely meant otherwise.
 //!
 //! No clause says what is printed; which site a text describes is said in `cell_table`.
-use crate::site_files::{SitePaths, say_reasons, site_texts};
+use crate::site_files::{SitePaths, in_files, say_reasons, site_texts};
 use cell_table::Site;
 use lab_runs::run::{Sites, Status, read_sites, refuse_site};
 use run_listeners::{LabFault, Printing};
@@ -48,7 +48,8 @@ pub fn check_file<R: Files + AllocGlobal, W: Write, E: Write>(
     errors: &mut E,
 ) -> Result<Status, LabFault> {
     let alloc = rt.alloc();
-    let Some(texts) = site_texts(rt, paths, out, errors)? else {
+    let sources = in_files(paths);
+    let Some(texts) = site_texts(rt, sources, out, errors)? else {
         return Ok(Status::Refused);
     };
     match read_sites(alloc, alloc, texts.first(), texts.peer()) {
@@ -58,7 +59,7 @@ pub fn check_file<R: Files + AllocGlobal, W: Write, E: Write>(
         }
         Err(fault) => {
             let status = refuse_site::<Global, _>(fault, &mut Printing::new(out))?;
-            let _ = say_reasons(alloc, paths, &texts, errors)?;
+            let _ = say_reasons(alloc, sources, &texts, errors)?;
             Ok(status)
         }
     }

@@ -7,7 +7,7 @@ ghost use Rattle.lab.specs.Files.{longest_file};
 use crate::run_reason::{say_cut_script, say_refusal};
 use crate::script_notes::say_idle_settings;
 use crate::script_sites::{say_other_sites, sites_named_by};
-use crate::site_files::{GivenPaths, SitePaths, SiteTexts, site_texts};
+use crate::site_files::{GivenPaths, SitePaths, SiteSources, SiteTexts, in_files, site_texts};
 use crate::view_paths::{named_twice, refuse_twice};
 use audits::viewed::{AskedRun, audit_viewed};
 use lab_runs::run::{Status, lab_run, run_for};
@@ -153,7 +153,7 @@ struct RunTexts {
 /// read, and then the path of the first such was printed, and on `errors` why.
 fn run_texts<R: Files + AllocGlobal, W: Write, E: Write>(
     rt: &R,
-    sites: SitePaths<'_>,
+    sites: SiteSources<'_>,
     script: &str,
     out: &mut W,
     errors: &mut E,
@@ -208,15 +208,15 @@ fn summed<W: Write, E: Write>(
 /// Runs a script over sites, all given as texts, with the views that are asked for; nothing where one of their files can't be
 /// opened, and then its path was printed, and on `errors` why. What came of the run until it ended, be it early, is written;
 /// but nothing where nothing was run, as where the script or a site is refused, so that the files are as they were.
-fn run_viewed<R: Files + AllocGlobal, W: Write, E: Write>(
+pub(crate) fn run_viewed<R: Files + AllocGlobal, W: Write, E: Write>(
     rt: &R,
-    texts: &RunTexts,
+    sites: &SiteTexts,
+    script: &str,
     views: &Views<'_>,
     out: &mut W,
     errors: &mut E,
 ) -> Result<Option<Status>, LabFault> {
     let alloc = rt.alloc();
-    let RunTexts { sites, script } = texts;
     let Some(sheets) = open_sheets(rt, views, out, errors)? else {
         return Ok(None);
     };
@@ -263,7 +263,7 @@ fn run_plain<W: Write>(alloc: Global, texts: &RunTexts, out: &mut W) -> Result<S
 /// nothing.
 fn say_ended<E: Write>(
     alloc: Global,
-    paths: SitePaths<'_>,
+    sources: SiteSources<'_>,
     path: &str,
     texts: &RunTexts,
     status: Status,
@@ -271,7 +271,7 @@ fn say_ended<E: Write>(
 ) -> Result<Status, LabFault> {
     let RunTexts { sites, script } = texts;
     if status == Status::Refused {
-        say_refusal(alloc, paths, sites, path, script, errors)?;
+        say_refusal(alloc, sources, sites, path, script, errors)?;
     } else {
         say_idle_settings(alloc, path, sites, script, errors)?;
     }
@@ -281,7 +281,7 @@ fn say_ended<E: Write>(
 /// Runs the script of one file over the sites of others.
 fn run_over<R: Files + AllocGlobal, W: Write, E: Write>(
     rt: &R,
-    sites: SitePaths<'_>,
+    sites: SiteSources<'_>,
     script: &str,
     views: &Views<'_>,
     ending: Ending,
@@ -297,7 +297,7 @@ fn run_over<R: Files + AllocGlobal, W: Write, E: Write>(
     let ended = match ending {
         Ending::Audit => run_audited(rt, &texts, views, out, errors)?,
         Ending::Plain if views.is_plain() => Some(run_plain(rt.alloc(), &texts, out)?),
-        Ending::Plain => run_viewed(rt, &texts, views, out, errors)?,
+        Ending::Plain => run_viewed(rt, &texts.sites, &texts.script, views, out, errors)?,
     };
     match ended {
         Some(status) => say_ended(rt.alloc(), sites, script, &texts, status, errors),
@@ -333,11 +333,11 @@ pub fn run_files<R: Files + AllocGlobal, W: Write, E: Write>(
 ) -> Result<Status, LabFault> {
     let peer = sites.peer;
     if let Some(first) = sites.first {
-        let sites = SitePaths { first, peer };
+        let sites = in_files(SitePaths { first, peer });
         return run_over(rt, sites, script, views, ending, out, errors);
     }
     match sites_named_by(rt, peer, script, out, errors)? {
-        Some(named) => run_over(rt, named.paths(), script, views, ending, out, errors),
+        Some(named) => run_over(rt, named.sources(), script, views, ending, out, errors),
         None => Ok(Status::Refused),
     }
 }

@@ -3,7 +3,7 @@
 //! No clause says what the line holds. Which line of a script is refused is `read_script`'s to say, and why by which word
 //! `script_reasons` says.
 use crate::script_notes::say_bare_returns;
-use crate::site_files::{SitePaths, SiteTexts, say_reasons};
+use crate::site_files::{SiteSources, SiteTexts, say_reasons};
 use lab_script::script::{ScriptFault, read_script};
 use run_listeners::LabFault;
 use screen_text::Escaped;
@@ -79,13 +79,13 @@ pub(crate) fn say_line<E: Write>(
 /// Says why a run over sites was refused: why the first of them that is refused is, or else why the script is.
 pub(crate) fn say_refusal<E: Write>(
     alloc: Global,
-    paths: SitePaths<'_>,
+    sources: SiteSources<'_>,
     sites: &SiteTexts,
     path: &str,
     script: &str,
     errors: &mut E,
 ) -> Result<(), LabFault> {
-    if say_reasons(alloc, paths, sites, errors)? {
+    if say_reasons(alloc, sources, sites, errors)? {
         return Ok(());
     }
     let has_peer = sites.peer().is_some();

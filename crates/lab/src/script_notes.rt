@@ -24,7 +24,7 @@ fn is_of_site(line: &str) -> bool {
 /// What is said of a comment that looks as if it said something to a test, but doesn't; nothing of another.
 fn slip_of(line: &str) -> Option<&'static str> {
     if names_no_site(line) || (is_slipped(line) && is_of_site(line)) {
-        Some("names nothing: \"#% site PATH\" and \"#% peer PATH\" name sites")
+        Some("names nothing: \"#% site PATH\", \"#% peer PATH\" and \"#% cells N full\" name sites")
     } else if is_slipped(line) {
         Some("an expectation but for a blank? \"#> \", \"#! \" and \"#= \" begin one")
     } else {

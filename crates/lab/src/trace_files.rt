@@ -1,7 +1,7 @@
 //! Attempts that are taken out of the traces in files.
 use crate::files::text_of;
 use crate::journal_text::trace_of;
-use crate::site_files::{SitePaths, SiteTexts, say_reasons, say_site, site_texts};
+use crate::site_files::{SitePaths, SiteTexts, in_files, say_reasons, say_site, site_texts};
 use attempt_lists::{first_unmarked, is_of_two, list_run, side_text};
 use audits::traced::audit_run;
 use lab_runs::run::Status;
@@ -113,7 +113,7 @@ fn sides_texts<R: Files + AllocGlobal, W: Write, E: Write>(
     out: &mut W,
     errors: &mut E,
 ) -> Result<Option<SidesTexts>, LabFault> {
-    let Some(sites) = site_texts(rt, sites, out, errors)? else {
+    let Some(sites) = site_texts(rt, in_files(sites), out, errors)? else {
         return Ok(None);
     };
     let Some(trace) = trace_of(rt, trace, out, errors)? else {
@@ -156,7 +156,7 @@ fn say_refused_sides<E: Write>(
     texts: &SidesTexts,
     errors: &mut E,
 ) -> Result<bool, LabFault> {
-    if say_reasons(alloc, sites, &texts.sites, errors)? {
+    if say_reasons(alloc, in_files(sites), &texts.sites, errors)? {
         return Ok(true);
     }
     let (site, trace) = (texts.sites.first(), texts.trace.as_str());

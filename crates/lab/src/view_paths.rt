@@ -1,5 +1,5 @@
 //! The files that a run writes to.
-use crate::site_files::SitePaths;
+use crate::site_files::SiteSources;
 use lab_runs::run::Status;
 use run_listeners::LabFault;
 use screen_text::Escaped;
@@ -42,8 +42,13 @@ pub(crate) fn is_same<R: Files>(rt: &R, one: &str, other: &str) -> bool {
 }
 
 /// Whether a run reads the file of this path.
-fn is_read<R: Files>(rt: &R, sites: SitePaths<'_>, script: &str, path: &str) -> bool {
-    if is_same(rt, sites.first, path) || is_same(rt, script, path) {
+fn is_read<R: Files>(rt: &R, sites: SiteSources<'_>, script: &str, path: &str) -> bool {
+    if is_same(rt, script, path) {
+        return true;
+    }
+    if let Some(site) = sites.first.path()
+        && is_same(rt, site, path)
+    {
         return true;
     }
     match sites.peer {
@@ -55,7 +60,7 @@ fn is_read<R: Files>(rt: &R, sites: SitePaths<'_>, script: &str, path: &str) -> 
 /// The path of the capture or else of the chart, where another file of the run is the same: that would be lost.
 pub(crate) fn named_twice<'a, R: Files>(
     rt: &R,
-    sites: SitePaths<'_>,
+    sites: SiteSources<'_>,
     script: &str,
     views: &Views<'a>,
 ) -> Option<&'a str> {

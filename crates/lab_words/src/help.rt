@@ -137,8 +137,13 @@ Comments behind a script line say what it gives. #> and a line of the trace: the
 lines, but that in .. may be left out; messages may stand in words, with some of their fields; #> ..
 stands for any lines, or none. #! and a text: no line begins so, or is so in words. #= and trx,
 channels, call, calls or references: what the books hold then. Behind the last line the trace's end
-may be expected, too. #% site PATH names the site of a script, #% peer PATH its peer's. The first
-word is the site of those that name none, where it ends in .toml.
+may be expected, too. #% site PATH names the site of a script, #% peer PATH its peer's; #% cells N
+full or #% cells N half is one of N cells, as bsc_lab cells prints it. The first word is the site of
+those that name none, where it ends in .toml.
+
+With --keep FOLDER gets three files for each script that isn't met: its trace (.trace), its chart
+(.svg) and its capture (.pcap), as bsc_lab run makes them. Their name is the script's path without
+.txt, with a hyphen for each slash.
 
 With --undo-everywhere these comments are passed over. Behind each input, answers of simulators too,
 each attempt at handover that is open there is undone by an operator, in a run of its own, and taken
@@ -159,8 +164,10 @@ As in: bsc_lab test site.toml one.txt another.txt"
 pub(crate) const RECORD_HELP: &str = with_script_lines!(
     "\
 Comments that begin with #> are written anew, with --states those with #= too; all else stays as it
-is. SITE is what the script is run over, also where it names another (#% site). Without SITE it is
-run over what it names. Write to another file than SCRIPT: a shell empties that first.
+is. With --accept that is so of those behind one line alone: LINE is that line, or one of those
+behind it, as bsc_lab test names it. SITE is what the script is run over, also where it names
+another (#% site). Without SITE it is run over what it names. Write to another file than SCRIPT: a
+shell empties that first.
 
 ",
     "
@@ -194,6 +201,16 @@ or has with another carrier or other colour codes.
 Statuses: 0 the site can be read, 2 the file or the site is refused, 3 memory was refused.
 
 As in: bsc_lab check site.toml";
+
+/// What stands behind the help of `cells`.
+pub(crate) const CELLS_HELP: &str = "\
+Cell K has the cell identity K and the carrier K + 1, from cell 32 on again from carrier 1 on with
+the next colour code. Timeslots 1 to 7 carry traffic, with half also in halves. A script is run over
+this site that has the line #% cells N RATE.
+
+Statuses: 0 printed, 2 the words are wrong, 3 memory was refused.
+
+As in: bsc_lab cells 64 full > site.toml";
 
 /// What stands behind the help of `rewind`.
 pub(crate) const REWIND_HELP: &str = "\

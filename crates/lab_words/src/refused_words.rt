@@ -74,6 +74,12 @@ const NUMBERS: &[(&str, &str, &str)] = &[
     ("live", "'--keep <N>'", "; N is a number from 1 on"),
     ("live", "'--heard <M>'", "; M is a number from 0 on"),
     ("rewind", "'[LINE]'", "; LINE is a number from 1 on"),
+    (
+        "record",
+        "'--accept <LINE>'",
+        "; LINE is a number from 1 on",
+    ),
+    ("cells", "'<N>'", "; N is a number from 1 to 64"),
     ("storm", "'--workers <N>'", "; N is a number from 1 to 16"),
     ("storm", "'--calls <M>'", "; M is a number from 1 to 1024"),
     ("refused", "'<N>'", "; N is a number from 1 to 9"),

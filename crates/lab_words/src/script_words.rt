@@ -1,6 +1,6 @@
 //! The words of the commands that test and record scripts.
 use crate::help::{RECORD_HELP, TEST_HELP};
-use crate::rows::{ArgumentRow, CommandRow, Form, Rule, TEXT, command};
+use crate::rows::{ArgumentRow, COUNTED, CommandRow, Form, Rule, TEXT, command};
 use crate::site_paths::{GivenPaths, SitePaths};
 use crate::words::PEER;
 use clap::{ArgMatches, Command};
@@ -8,7 +8,16 @@ use expectations::Recording;
 use screen_text::Escaped;
 use std::alloc::{AllocError, Global};
 
-/// `test [SITE] SCRIPT.. [--peer SITE] [-k TEXT] [--junit FILE] [--undo-everywhere]`
+/// What tests write beside what they print.
+#[derive(Clone, Copy, Debug, PartialEq, Eq)]
+pub struct TestFiles<'a> {
+    /// The file of a report in the form of JUnit.
+    pub report: Option<&'a str>,
+    /// The folder in which is kept what came of the scripts that aren't met.
+    pub kept: Option<&'a str>,
+}
+
+/// `test [SITE] SCRIPT.. [--peer SITE] [-k TEXT] [--junit FILE] [--keep FOLDER] [--undo-everywhere]`
 const TEST: CommandRow = CommandRow {
     name: "test",
     about: "Runs scripts, and says which print what their comments expect (TAP)",
@@ -40,6 +49,12 @@ const TEST: CommandRow = CommandRow {
             rules: &[Rule::Excludes("everywhere")],
         },
         ArgumentRow {
+            name: "kept",
+            form: Form::Valued("keep", "FOLDER", TEXT),
+            help: "Keeps trace, chart and capture of each script that isn't met in this folder",
+            rules: &[Rule::Excludes("everywhere")],
+        },
+        ArgumentRow {
             name: "everywhere",
             form: Form::Flag("undo-everywhere"),
             help: "Takes each open attempt back behind each input, in a run of its own",
@@ -54,7 +69,7 @@ pub(crate) fn test_command<'a>(alloc: Global) -> Result<Command<'a>, AllocError>
     Ok(command.override_usage("bsc_lab test [OPTIONS] [SITE] <SCRIPT>..."))
 }
 
-/// `record [SITE] SCRIPT [--peer SITE] [--words] [--states]`
+/// `record [SITE] SCRIPT [--peer SITE] [--words] [--states] [--accept LINE]`
 const RECORD: CommandRow = CommandRow {
     name: "record",
     about: "Runs a script and prints it with comments that expect what came of each line",
@@ -75,6 +90,12 @@ const RECORD: CommandRow = CommandRow {
             help: "Also expects what the books hold: the channels in use, and each call",
             rules: &[],
         },
+        ArgumentRow {
+            name: "accept",
+            form: Form::Valued("accept", "LINE", COUNTED),
+            help: "Takes what came at this line of the script alone; all other lines stay as they are",
+            rules: &[],
+        },
     ],
 };
 
@@ -89,9 +110,12 @@ pub(crate) fn is_everywhere(test: &ArgMatches<'_>) -> bool {
     test.get_flag("everywhere")
 }
 
-/// The file that a report of the tests is to be written to.
-pub(crate) fn report_of<'a>(test: &ArgMatches<'a>) -> Option<&'a str> {
-    test.get_str("report")
+/// What the tests are to write beside what they print.
+pub(crate) fn test_files<'a>(test: &ArgMatches<'a>) -> TestFiles<'a> {
+    TestFiles {
+        report: test.get_str("report"),
+        kept: test.get_str("kept"),
+    }
 }
 
 /// How a script is to be recorded.
@@ -99,6 +123,7 @@ pub(crate) fn recording_of(record: &ArgMatches<'_>) -> Recording {
     Recording {
         words: record.get_flag("words"),
         states: record.get_flag("states"),
+        only: record.get_one::<usize>("accept"),
     }
 }
 
@@ -114,7 +139,7 @@ pub(crate) fn site_paths<'a>(matches: &ArgMatches<'a>) -> Option<SitePaths<'a>> 
 pub(crate) const FIRST: ArgumentRow = ArgumentRow {
     name: "SITE",
     form: Form::Placed(TEXT),
-    help: "The site file; it may be left out where the script names its own (#% site)",
+    help: "The site file; it may be left out where the script names its own (#% site, #% cells)",
     rules: &[Rule::Required],
 };
 

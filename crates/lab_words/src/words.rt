@@ -1,14 +1,15 @@
 //! The words of the command line.
 ghost use Rattle.std.specs.Prelude.{◌≡◌};
 
+use crate::cells_words::{cells_command, cells_job};
 use crate::explain_words::{explain_command, hexadecimal_question, question_of};
 use crate::help::{CHECK_HELP, DECODE_HELP, ENCODE_HELP, LIVE_HELP, RUN_HELP, with_messages};
 use crate::journal_words::{JournalWords, entries_of, journal_of, journal_options};
 use crate::refused_words::refused_line;
 use crate::rows::{ArgumentRow, CommandRow, Form, Rule, TEXT, command, with};
 use crate::script_words::{
-    FIRST, SECOND, given_paths, is_everywhere, lacks_script, named_script, none_named,
-    record_command, recording_of, report_of, script_paths, site_paths, test_command,
+    FIRST, SECOND, TestFiles, given_paths, is_everywhere, lacks_script, named_script, none_named,
+    record_command, recording_of, script_paths, site_paths, test_command, test_files,
 };
 use crate::site_paths::{GivenPaths, SitePaths};
 use crate::storm_words::{StormSize, storm_command, storm_size};
@@ -25,6 +26,7 @@ use clap::{ArgMatches, Command, Error};
 use decoded_lines::{Asked, Detail, LinkName, link_named};
 use expectations::Recording;
 use explanations::Question;
+use site_text::UniformSite;
 use std::alloc::{AllocError, Global};
 use view_options::{SummaryForm, Views};
 
@@ -75,11 +77,12 @@ pub enum Job<'a> {
         sites: GivenPaths<'a>,
         scripts: Vec<&'a str>,
     },
-    /// Scripts are tested over a site, or over two: the paths of the files, and of the report that is written, if one is.
+    /// Scripts are tested over a site, or over two: the paths of the files, and of those that are written beside what is
+    /// printed.
     Test {
         sites: GivenPaths<'a>,
         scripts: Vec<&'a str>,
-        report: Option<&'a str>,
+        written: TestFiles<'a>,
     },
     /// A script is recorded over a site, or over two: the paths of the files, and how what comes is recorded.
     Record {
@@ -97,6 +100,8 @@ pub enum Job<'a> {
     Check {
         sites: SitePaths<'a>,
     },
+    /// A site of cells alike is printed, as a site file has it.
+    Cells(UniformSite),
     /// A message, written in hexadecimal, is printed in words.
     Decode {
         link: LinkName,
@@ -302,6 +307,7 @@ enum CommandName {
     Summary,
     Storm,
     Check,
+    Cells,
     Decode,
     Encode,
     Explain,
@@ -318,6 +324,7 @@ const COMMANDS: &[CommandName] = &[
     CommandName::Summary,
     CommandName::Storm,
     CommandName::Check,
+    CommandName::Cells,
     CommandName::Decode,
     CommandName::Encode,
     CommandName::Explain,
@@ -335,6 +342,7 @@ fn named_command<'a>(alloc: Global, name: CommandName) -> Result<Command<'a>, Al
         CommandName::Summary => summary_command(alloc),
         CommandName::Storm => storm_command(alloc),
         CommandName::Check => check_command(alloc),
+        CommandName::Cells => cells_command(alloc),
         CommandName::Decode => decode_command(alloc),
         CommandName::Encode => encode_command(alloc),
         CommandName::Explain => explain_command(alloc),
@@ -445,6 +453,7 @@ fn job_of<'a>(matches: &ArgMatches<'a>) -> Option<Job<'a>> {
         ("summary", summary) => summary_job(summary),
         ("storm", storm) => storm_job(storm),
         ("check", check) => check_job(check),
+        ("cells", cells) => cells_job(cells),
         ("decode", decode) => decode_job(decode),
         ("encode", encode) => encode_job(encode),
         ("explain", explain) => explain_job(explain),
@@ -465,7 +474,7 @@ fn test_job<'a>(alloc: Global, test: &ArgMatches<'a>) -> Result<Job<'a>, WordsFa
         Job::Test {
             sites,
             scripts,
-            report: report_of(test),
+            written: test_files(test),
         }
     })
 }

@@ -27,6 +27,14 @@ pub(crate) fn is_nowhere<A: Allocator + Copy>(turn: &Turn<A>, site: &Site<A>) ->
     }
 }
 
+/// Whether a message on Abis is about a channel that the site lacks.
+pub(crate) fn is_off_site<A: Allocator + Copy>(content: &Content<A>, site: &Site<A>) -> bool {
+    match content {
+        Content::Abis(place, Some(_)) => place.chan.is_some_and(|chan| !site.is_traffic(chan)),
+        Content::Abis(_, None) | Content::Rowless(..) | Content::A(..) | Content::Nothing => false,
+    }
+}
+
 /// Whether a step changed nothing: it asked, or was refused. That none is free says enough, but of a call that isn't there.
 fn changed_nothing(step: Step, is_of_nobody: bool) -> bool {
     match step {

@@ -1,6 +1,6 @@
 //! A listener that views a run.
 use crate::chart_rows::RunChart;
-use crate::ignored::{is_ignored, is_nowhere, is_out_of_stage};
+use crate::ignored::{is_ignored, is_nowhere, is_off_site, is_out_of_stage};
 use crate::origins::{Origin, Origins};
 use capture::RunCapture;
 use cell_table::SiteFault;
@@ -211,7 +211,12 @@ impl<'a, W: Write, A: Allocator + Copy> Viewer<'a, W, A> {
             return Ok(print_ignored(self.out, &turn.input)?);
         }
         let content = content_of(self.alloc, &TraceLine::Input(&turn.input))?;
-        if is_out_of_stage(turn, &content) {
+        if !is_out_of_stage(turn, &content) {
+            return Ok(());
+        }
+        if is_off_site(&content, book.site()) {
+            write!(self.out, "; ignored: no such channel")?;
+        } else {
             print_out_of_stage(self.out, &turn.input)?;
         }
         Ok(())

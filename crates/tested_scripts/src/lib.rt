@@ -13,6 +13,7 @@ mod never;
 mod never_messages;
 mod never_values;
 mod printed;
+mod reasons;
 pub mod recorded;
 pub mod tested;
 
@@ -21,6 +22,6 @@ pub use lines::{expected_in, is_any, is_script_line, lines_of, part_end};
 pub use nearest::Nearest;
 pub use never::{Never, NeverLine, Told, never_lines};
 pub use printed::{
-    Miss, TestName, ending_of, print_met, print_miss, print_not_met, print_plan, print_reason,
-    print_recorded,
+    Miss, TestName, ending_of, print_met, print_miss, print_not_met, print_plan, print_recorded,
 };
+pub use reasons::Reasons;

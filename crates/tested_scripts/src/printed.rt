@@ -59,6 +59,21 @@ pub enum Miss<'a> {
     NoSite,
 }
 
+impl Miss<'_> {
+    /// The line of the script, counted from 1, that it is about; 0 where it is about the whole script.
+    pub(crate) fn line(&self) -> usize {
+        match *self {
+            Miss::Differs { line, .. } => line,
+            Miss::Begins { line, .. } => line,
+            Miss::Holds { line, .. } => line,
+            Miss::Slipped(line) => line,
+            Miss::Idle(line) => line,
+            Miss::Unreadable(line) => line,
+            Miss::Nothing | Miss::NoFile | Miss::NoSite => 0,
+        }
+    }
+}
+
 /// Prints how many tests there are.
 pub fn print_plan<W: Write>(out: &mut W, count: usize) -> io::Result<()> {
     writeln!(out, "1..{count}")
@@ -128,7 +143,7 @@ pub(crate) fn print_missing<W: Write>(
 }
 
 /// Prints why a test isn't met.
-pub fn print_reason<W: Write>(out: &mut W, miss: Miss<'_>) -> io::Result<()> {
+pub(crate) fn print_reason<W: Write>(out: &mut W, miss: Miss<'_>) -> io::Result<()> {
     match miss {
         Miss::Differs {
             line,
