@@ -1,6 +1,6 @@
 //! Files with a damaged record, and where these can be cut.
-use super::SITE_SUM;
 use super::lines::{book_after, fresh_site, trace_of};
+use super::served::SITE_SUM;
 use cell_table::Site;
 use journal_records::{FIRST_LINE, append_record};
 use journal_resume::{Damage, ResumeFault, damage_at, head_body, resume};

@@ -1,12 +1,12 @@
 //! A disk that is full when a controller goes on.
 use super::disk::{Disk, Failure};
-use super::lines::{LINES, book_after, fresh_site};
-use super::{Course, Host, Opened, first_course, goes_on, open};
-use cell_table::Site;
+use super::lines::LINES;
+use super::served::{Course, Host, open, play};
+use super::{Scene, first_course, goes_on};
 use journal_files::Folder;
+use journal_opening::Opened;
 use std::alloc::Global;
 use std::process::Abort;
-use std::sync::Arc;
 use std::test::Fail;
 
 /// Whether the folder has a file of a journal.
@@ -21,13 +21,13 @@ fn has_span(host: &Host) -> Result<bool, Fail> {
 fn left_goes_on(
     rt: &impl Abort,
     host: &Host,
-    site: &Arc<Site>,
-    course: Course,
+    scene: &Scene,
+    course: &Course,
     number: u32,
 ) -> Result<(), Fail> {
     for is_named in [false, true] {
         let left = (host.0.left(is_named)?, host.1);
-        goes_on(rt, &left, site, course, number)?;
+        goes_on(rt, &left, scene, course, number)?;
     }
     Ok(())
 }
@@ -36,9 +36,9 @@ fn left_goes_on(
 fn is_whole(
     rt: &impl Abort,
     host: &Host,
-    site: &Arc<Site>,
-    first: Course,
-    opened: &Opened<'_>,
+    scene: &Scene,
+    first: &Course,
+    opened: &Opened<'_, Host>,
     number: u32,
 ) -> Result<(), Fail> {
     let last = opened.journal.last();
@@ -48,15 +48,7 @@ fn is_whole(
         "call {number}: heard {}, and {last} is there",
         first.heard
     );
-    assert!(rt;
-        opened.book == book_after(host.1, site, last)?,
-        "call {number}: the book of line {last}"
-    );
-    let course = Course {
-        heard: last,
-        has_ended: false,
-    };
-    left_goes_on(rt, host, site, course, number)
+    left_goes_on(rt, host, scene, first, number)
 }
 
 /// A controller goes on over a full disk, and takes lines until that has no room for them. What was heard is on the disk; once
@@ -64,43 +56,41 @@ fn is_whole(
 fn goes_on_full(
     rt: &impl Abort,
     host: &Host,
-    site: &Arc<Site>,
-    first: Course,
+    scene: &Scene,
+    first: &Course,
     number: u32,
 ) -> Result<(), Fail> {
-    let Some(mut opened) = open(rt, host, site, None)? else {
+    let mut told = Vec::new(host.1);
+    let Some(opened) = open(host, &scene.site, None, Some(first.heard), &mut told)? else {
         panic!(rt; "call {number}: it can't be opened");
     };
-    is_whole(rt, host, site, first, &opened, number)?;
+    is_whole(rt, host, scene, first, &opened, number)?;
     let last = opened.journal.last();
-    let second = opened.play(host.1)?;
+    let second = play(host.1, opened, told)?;
     assert!(rt;
         second.has_ended || last == LINES,
         "call {number}: it has room"
     );
-    let course = Course {
-        heard: second.heard.max(last),
-        has_ended: true,
-    };
-    left_goes_on(rt, host, site, course, number)?;
+    let course = first.then(host.1, &second)?;
+    left_goes_on(rt, host, scene, &course, number)?;
     host.0.fill(false)?;
-    goes_on(rt, host, site, course, number)
+    goes_on(rt, host, scene, &course, number)
 }
 
 /// A call fails; then the disk is full. The answer is whether the call came.
 fn is_full_behind(
     rt: &impl Abort,
     alloc: Global,
-    site: &Arc<Site>,
+    scene: &Scene,
     number: u32,
 ) -> Result<bool, Fail> {
     let host = (Disk::new(alloc, Failure::Refused, number)?, alloc);
-    let first = first_course(rt, &host, site, None)?;
+    let first = first_course(&host, scene, None)?;
     let came = host.0.has_failed()?;
     host.0.mend()?;
     if has_span(&host)? {
         host.0.fill(true)?;
-        goes_on_full(rt, &host, site, first, number)?;
+        goes_on_full(rt, &host, scene, &first, number)?;
     }
     Ok(came)
 }
@@ -108,10 +98,10 @@ fn is_full_behind(
 /// Each call fails in turn, and then the disk is full: the next controller goes on all the same.
 #[test]
 fn a_full_disk_is_gone_on_with(rt: HostRuntime) -> Result<(), Fail> {
-    let site = fresh_site(rt.alloc())?;
+    let scene = Scene::new(rt.alloc())?;
     let mut count = 0u32;
     for number in 1..400u32 {
-        if !is_full_behind(&rt, rt.alloc(), &site, number)? {
+        if !is_full_behind(&rt, rt.alloc(), &scene, number)? {
             break;
         }
         count = number;
@@ -125,29 +115,30 @@ fn a_full_disk_is_gone_on_with(rt: HostRuntime) -> Result<(), Fail> {
 fn fails_when_full(
     rt: &impl Abort,
     alloc: Global,
-    site: &Arc<Site>,
+    scene: &Scene,
     before: u32,
     number: u32,
 ) -> Result<bool, Fail> {
     let host = (Disk::new(alloc, Failure::Refused, before)?, alloc);
-    let first = first_course(rt, &host, site, None)?;
+    let first = first_course(&host, scene, None)?;
     host.0.fill(true)?;
     host.0.fail(Failure::Power, number)?;
-    let opened = open(rt, &host, site, None)?;
+    let mut told = Vec::new(alloc);
+    let opened = open(&host, &scene.site, None, None, &mut told)?;
     let came = host.0.has_failed()?;
     assert!(rt; came != opened.is_some(), "call {before}, then {number}");
-    left_goes_on(rt, &host, site, first, number)?;
+    left_goes_on(rt, &host, scene, &first, number)?;
     Ok(came)
 }
 
 /// Power fails at each call of a controller that goes on over a full disk; one more was refused to the controller before.
 #[test]
 fn power_fails_on_a_full_disk(rt: HostRuntime) -> Result<(), Fail> {
-    let site = fresh_site(rt.alloc())?;
+    let scene = Scene::new(rt.alloc())?;
     for before in [0u32, 30, 31, 32, 33, 34] {
         let mut count = 0u32;
         for number in 1..40u32 {
-            if !fails_when_full(&rt, rt.alloc(), &site, before, number)? {
+            if !fails_when_full(&rt, rt.alloc(), &scene, before, number)? {
                 break;
             }
             count = number;

@@ -1,17 +1,18 @@
 //! A folder that gets another path while a controller has it, and another folder in its place.
 use super::disk::Failure;
-use super::lines::{LINES, fresh_site};
-use super::{Course, Host, Opened, goes_on, host_of, open};
-use cell_table::Site;
+use super::lines::LINES;
+use super::served::{Course, Host, SITE_SUM, open, play};
+use super::{Scene, goes_on, host_of};
 use journal_files::{BeginFault, Folder};
+use journal_opening::Opened;
 use journal_resume::head_body;
 use std::process::Abort;
-use std::sync::Arc;
 use std::test::Fail;
 
 /// Opens the journal.
-fn opened<'a>(rt: &impl Abort, host: &'a Host, site: &Arc<Site>) -> Result<Opened<'a>, Fail> {
-    match open(rt, host, site, Some(2))? {
+fn opened<'a>(rt: &impl Abort, host: &'a Host, scene: &Scene) -> Result<Opened<'a, Host>, Fail> {
+    let mut told = Vec::new(host.1);
+    match open(host, &scene.site, Some(2), None, &mut told)? {
         Some(opened) => Ok(opened),
         None => panic!(rt; "it can't be opened"),
     }
@@ -34,10 +35,10 @@ fn is_untouched(rt: &impl Abort, host: &Host) -> Result<(), Fail> {
 }
 
 /// Back at its path, the folder has all that was heard.
-fn goes_back(rt: &impl Abort, host: &Host, site: &Arc<Site>, course: Course) -> Result<(), Fail> {
+fn goes_back(rt: &impl Abort, host: &Host, scene: &Scene, course: &Course) -> Result<(), Fail> {
     host.0.empty("j")?;
     host.0.move_home("j")?;
-    goes_on(rt, host, site, course, 0)
+    goes_on(rt, host, scene, course, 0)
 }
 
 /// The files go with the folder: those that are begun, too, and those that are removed.
@@ -45,17 +46,17 @@ fn goes_back(rt: &impl Abort, host: &Host, site: &Arc<Site>, course: Course) -> 
 fn a_moved_folder_has_its_files(rt: HostRuntime) -> Result<(), Fail> {
     let alloc = rt.alloc();
     let host = host_of(alloc, Failure::Refused, 0, true)?;
-    let site = fresh_site(alloc)?;
-    let mut opened = opened(&rt, &host, &site)?;
+    let scene = Scene::new(alloc)?;
+    let opened = opened(&rt, &host, &scene)?;
     put_another(&host)?;
-    let course = opened.play(alloc)?;
+    let course = play(alloc, opened, Vec::new(alloc))?;
     assert!(rt; !course.has_ended);
     assert_eq!(rt; course.heard, LINES);
     is_untouched(&rt, &host)?;
     // the lock, and the two that are kept of three
     assert_eq!(rt; host.0.count("old")?, 3);
     assert!(rt; 0 < host.0.size("old/00000000000000000040.journal")?);
-    goes_back(&rt, &host, &site, course)
+    goes_back(&rt, &host, &scene, &course)
 }
 
 /// Where the system knows no path of an opened folder, the journal is lost with the first file that should be begun: the
@@ -64,14 +65,14 @@ fn a_moved_folder_has_its_files(rt: HostRuntime) -> Result<(), Fail> {
 fn a_moved_folder_is_lost_by_its_path(rt: HostRuntime) -> Result<(), Fail> {
     let alloc = rt.alloc();
     let host = host_of(alloc, Failure::Refused, 0, false)?;
-    let site = fresh_site(alloc)?;
-    let mut opened = opened(&rt, &host, &site)?;
+    let scene = Scene::new(alloc)?;
+    let opened = opened(&rt, &host, &scene)?;
     put_another(&host)?;
-    let course = opened.play(alloc)?;
+    let course = play(alloc, opened, Vec::new(alloc))?;
     assert!(rt; course.has_ended);
     assert_eq!(rt; course.heard, 20);
     is_untouched(&rt, &host)?;
-    goes_back(&rt, &host, &site, course)
+    goes_back(&rt, &host, &scene, &course)
 }
 
 /// It is lost, and not gone on with, also where nothing stands at the path.
@@ -79,10 +80,10 @@ fn a_moved_folder_is_lost_by_its_path(rt: HostRuntime) -> Result<(), Fail> {
 fn a_file_of_a_moved_folder_is_unknown(rt: HostRuntime) -> Result<(), Fail> {
     let alloc = rt.alloc();
     let host = host_of(alloc, Failure::Refused, 0, false)?;
-    let site = fresh_site(alloc)?;
-    let mut opened = opened(&rt, &host, &site)?;
+    let scene = Scene::new(alloc)?;
+    let mut opened = opened(&rt, &host, &scene)?;
     host.0.move_home("old")?;
-    let head = head_body(alloc, super::SITE_SUM, &opened.book)?;
+    let head = head_body(alloc, SITE_SUM, &opened.book)?;
     match opened.journal.begin_span(alloc, head.as_bytes()) {
         Err(BeginFault::Unknown(_)) => {}
         Ok(_) | Err(BeginFault::NotBegun(_)) => panic!(rt; "it goes on"),

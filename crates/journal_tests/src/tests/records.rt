@@ -1,6 +1,6 @@
 //! Files that are changed, and lines that are told once more.
-use super::SITE_SUM;
 use super::lines::{book_after, fresh_site, trace_of};
+use super::served::SITE_SUM;
 use cell_table::Site;
 use journal_records::{FIRST_LINE, append_record};
 use journal_resume::{ResumeFault, head_body, resume, tell_sent};
