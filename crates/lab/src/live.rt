@@ -1,7 +1,7 @@
 //! A controller that is given the lines of standard input as they come.
 //!
 //! No clause says what is printed: which lines are handled is said in `live_runs`.
-ghost use Rattle.std.specs.Prelude.{◌≡◌, false, Ok, IsOk, IfOk, IfSome};
+ghost use Rattle.std.specs.Prelude.{◌≡◌, true, false, Ok, IsOk, IfOk, IfSome};
 ghost use Rattle.std.specs.declared.alloc.Global.{Global};
 ghost use Rattle.cell_table.specs.SiteFile.{read_site};
 ghost use Rattle.journal_records.specs.Checksum.{checksum};
@@ -111,7 +111,10 @@ fn live_viewed<R: Files + AllocGlobal, I: BufRead + LineReader, W: Write, E: Wri
     reader: &mut I,
     out: &mut W,
     errors: &mut E,
-) -> Result<Status, LabFault> {
+) -> Result<Status, LabFault>
+    ensures handled { result ≡ Ok Status.Done → IfSome (I.remaining reader.old) (λ octets.
+        Played Global book (items_from true false octets)) }
+{
     let alloc = rt.alloc();
     let Some(sheets) = open_sheets(rt, asked.views, out, errors)? else {
         return Ok(Status::Refused);
