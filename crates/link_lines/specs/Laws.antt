@@ -1,5 +1,5 @@
 -- What is written is read. Ours, of no standard.
-use Rattle.std.specs.Prelude.{◌≡◌, ◌≢◌, ◌<◌, ℕ, List, [], Ok}
+use Rattle.std.specs.Prelude.{◌≡◌, ◌<◌, ℕ, List, length, Ok}
 use Rattle.hex.specs.Hex.{IsBytes}
 use Rattle.channel_fsm.specs.declared.ChanId.{ChanId}
 use Rattle.exchange.specs.declared.Line.{Line}
@@ -24,7 +24,7 @@ pub record FitsChannel (x : ChanId) : Type 0 where
 
 pub record FitsMessage (octets : List ℕ) : Type 0 where
   pub bytes : IsBytes octets
-  pub some : octets ≢ []
+  pub some : 0 < length octets
 
 pub record FitsStation (cell trx : ℕ) : Type 0 where
   pub cell : cell < 256
@@ -61,5 +61,5 @@ Fits (input.Advance call n) = FitsCall call × (n < 64)
 Fits input.BridgeCommands = Unit {0}
 
 -- what is written of an input is read as that
-abbrev pub ReadsTexts : Type 0 → Type 0
+abbrev pub ReadsTexts : (A : Type 0) → Type 0
 ReadsTexts A = (i : LinkInput A) → Fits i → line_of (input_text i) ≡ Ok (Input i)

@@ -211,25 +211,28 @@ abbrev pub read_by : {A : Type 0} → List (List ℕ × (Option (List ℕ) → R
 read_by [] word rest = None
 read_by (k ∷ ks) word rest = if bytes_eq word k.0 then Some (k.1 rest) else read_by ks word rest
 
--- a line that is one of a script
-abbrev pub script_line : {A : Type 0} → List ℕ → Read (LinkInput A)
-script_line text =
-    if is_message (form_named (first_word text)) || is_operators (form_named (first_word text)) then read_map as_came (script_in text)
-    else Err (Keyword (first_word text))
+-- a line that is one of a script, by its first word
+abbrev pub script_line : {A : Type 0} → List ℕ → List ℕ → Read (LinkInput A)
+script_line word text =
+    if is_message (form_named word) || is_operators (form_named word) then read_map as_came (script_in text) else Err (Keyword word)
 
-abbrev pub other_line : {A : Type 0} → List ℕ → Read (LinkInput A)
-other_line text =
-    if bytes_eq (first_word text) (codes "for") then read_map in_place (message_in (behind_word text))
-    else if bytes_eq (first_word text) (codes "send") then read_map as_sent (message_in (behind_word text))
-    else script_line text
+-- a line that has a message, or is one of a script, by its first word and by what stands behind that
+abbrev pub other_line : {A : Type 0} → List ℕ → Option (List ℕ) → List ℕ → Read (LinkInput A)
+other_line word rest text =
+    if bytes_eq word (codes "for") then read_map in_place (message_in rest)
+    else if bytes_eq word (codes "send") then read_map as_sent (message_in rest)
+    else script_line word text
 
-abbrev pub unless_other : {A : Type 0} → List ℕ → Option (Read (LinkLine A)) → Read (LinkLine A)
-unless_other text (Some read) = read
-unless_other text None = given (other_line text)
+abbrev pub unless_plain : {A : Type 0} → Option (Read (LinkLine A)) → Read (LinkInput A) → Read (LinkLine A)
+unless_plain (Some read) other = read
+unless_plain None other = given other
+
+abbrev pub words_by : {A : Type 0} → List ℕ → Option (List ℕ) → List ℕ → Read (LinkLine A)
+words_by word rest text = unless_plain (read_by kinds word rest) (other_line word rest text)
 
 unfoldable pub words_in : {A : Type 0} → List ℕ → Read (LinkLine A)
-words_in text = unless_other text (read_by kinds (first_word text) (behind_word text))
+words_in text = words_by (first_word text) (behind_word text) text
 
--- what a line says, without the carriage return that may end it
+-- what a line says, which no carriage return ends
 unfoldable pub line_of : {A : Type 0} → List ℕ → Read (LinkLine A)
 line_of text = if is_comment text || is_blank text then Ok line.Nothing else words_in text

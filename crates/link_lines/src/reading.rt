@@ -285,11 +285,14 @@ fn plain_line<'a, A: Allocator>(
     }
 }
 
-/// What a line of a script says.
-fn script_line<A: Allocator + Copy>(alloc: A, text: &str) -> Result<LinkInput<A>, LineFault<'_>>
-    ensures { Answers result (said.script_line text.now) }
+/// What a line of a script says, which begins with this word.
+fn script_line<'a, A: Allocator + Copy>(
+    alloc: A,
+    word: &'a str,
+    text: &'a str,
+) -> Result<LinkInput<A>, LineFault<'a>>
+    ensures { Answers result (said.script_line word.now text.now) }
 {
-    let (word, _) = cut_word(text);
     let form = form_named(word);
     if is_message(form) || is_operators(form) {
         Ok(as_came(script_input(alloc, text)?))
@@ -298,15 +301,19 @@ fn script_line<A: Allocator + Copy>(alloc: A, text: &str) -> Result<LinkInput<A>
     }
 }
 
-/// What a line says that has a message, or is one of a script.
-fn other_line<A: Allocator + Copy>(alloc: A, text: &str) -> Result<LinkInput<A>, LineFault<'_>>
-    ensures { Answers result (said.other_line text.now) }
+/// What a line says that begins with this word, and has a message or is one of a script.
+fn other_line<'a, A: Allocator + Copy>(
+    alloc: A,
+    word: &'a str,
+    rest: Rest<'a>,
+    text: &'a str,
+) -> Result<LinkInput<A>, LineFault<'a>>
+    ensures { Answers result (said.other_line word.now (option_map (λ text. text.now) rest.entry) text.now) }
 {
-    let (word, rest) = cut_word(text);
     match word {
         "for" => Ok(in_place(message(alloc, rest)?)),
         "send" => Ok(as_sent(message(alloc, rest)?)),
-        _ => script_line(alloc, text),
+        _ => script_line(alloc, word, text),
     }
 }
 
@@ -318,7 +325,7 @@ fn words<A: Allocator + Copy>(alloc: A, text: &str) -> Result<LinkLine<A>, LineF
     let (word, rest) = cut_word(text);
     match plain_line(word, rest) {
         Some(read) => read,
-        None => Ok(LinkLine::Input(other_line(alloc, text)?)),
+        None => Ok(LinkLine::Input(other_line(alloc, word, rest, text)?)),
     }
 }
 

@@ -1,11 +1,12 @@
 //! What the words of a line say.
 ghost use Rattle.std.specs.Prelude.{◌≡◌, option_map};
+ghost use Rattle.std.specs.Char.{is_ascii_digit};
+ghost use Rattle.std.specs.List.{list_all};
 ghost use Rattle.lab_script.specs.Words as script;
 ghost use Rattle.link_lines.specs.Words as said;
 
 use attempt_journal::Timer;
 use channel_fsm::Sub;
-use lab_script::forms::Slot;
 use link_tables::Timer as ChannelTimer;
 
 /// The name of a timer.
@@ -17,11 +18,18 @@ pub enum TimerName {
     Channel(ChannelTimer),
 }
 
+/// Whether the text has decimal digits alone.
+fn is_digits(text: &str) -> bool
+    ensures { result ≡ list_all is_ascii_digit text.now }
+{
+    text.bytes().all(|byte| byte.is_ascii_digit())
+}
+
 /// The number of a call.
 pub(crate) fn call_number(text: &str) -> Option<u16>
     ensures { result ≡ script.number_below 65536 text.now }
 {
-    if Slot::Call.fits(text) {
+    if is_digits(text) {
         text.parse().ok()
     } else {
         None
@@ -32,7 +40,7 @@ pub(crate) fn call_number(text: &str) -> Option<u16>
 pub(crate) fn octet(text: &str) -> Option<u8>
     ensures { result ≡ script.number_below 256 text.now }
 {
-    if Slot::Cell.fits(text) {
+    if is_digits(text) {
         text.parse().ok()
     } else {
         None
