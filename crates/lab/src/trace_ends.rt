@@ -73,7 +73,7 @@ impl Progress {
 
 /// How far the lines of a controller have come behind one more of them.
 fn advanced(progress: Progress, line: &str) -> Progress {
-    if line.starts_with("in ") {
+    if line.starts_with("in ") || line.starts_with("for ") {
         Progress::Going
     } else if is_end(line) {
         Progress::Ended

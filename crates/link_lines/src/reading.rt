@@ -248,10 +248,9 @@ fn as_sent<A: Allocator>(input: Inbound<A>) -> LinkInput<A>
 }
 
 /// The line that gives an input.
-fn given<A: Allocator>(read: Result<LinkInput<A>, LineFault<'_>>) -> Result<
-    LinkLine<A>,
-    LineFault<'_>,
->
+fn given<A: Allocator>(
+    read: Result<LinkInput<A>, LineFault<'_>>,
+) -> Result<LinkLine<A>, LineFault<'_>>
     ensures { read_of result ≡ said.given (read_of read) }
 {
     match read {

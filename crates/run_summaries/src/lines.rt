@@ -8,7 +8,7 @@ use std::alloc::{AllocError, Allocator};
 use trace_text::trace::{Mark, Step, TraceLine};
 
 /// The cell of what comes or is sent on Abis.
-fn cell_of<A: Allocator>(content: &Content<A>) -> Option<u8> {
+pub(crate) fn cell_of<A: Allocator>(content: &Content<A>) -> Option<u8> {
     match content {
         Content::Abis(place, _) | Content::Rowless(place, _) => Some(place.cell),
         Content::A(..) | Content::Nothing => None,

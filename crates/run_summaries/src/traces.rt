@@ -3,6 +3,8 @@
 //! No clause says which lines can be read: that is shown by tests.
 ghost use Rattle.std.specs.Prelude.{◌≡◌};
 
+use crate::causes::cause_of;
+use crate::lines::cell_of;
 use crate::runs::RunSummary;
 use event_text::reading::read_event;
 use exchange::{Inbound, Outbound};
@@ -166,10 +168,27 @@ impl<A: Allocator + Copy> RunSummary<A> {
         Ok(Some(self.told_by(&line, &content)?))
     }
 
+    /// What a line tells of which the controller was given this in another's place, `for ` left out; nothing where it can't be
+    /// read. No message came, so that none is counted.
+    fn told_in_place(&mut self, text: &str) -> Result<Option<Told>, AllocError> {
+        let Some(input) = input_of(self.alloc, text)? else {
+            return Ok(None);
+        };
+        let content = content_of(self.alloc, &TraceLine::Input(&input))?;
+        Ok(Some(Told::Input {
+            cell: cell_of(&content),
+            cause: cause_of(&input, &content),
+            name: None,
+        }))
+    }
+
     /// What a line tells, without its mark and words; nothing where it can't be read.
     fn told_in(&mut self, text: &str) -> Result<Option<Told>, AllocError> {
         if let Some(input) = text.strip_prefix("in ") {
             return self.told_by_input_text(without_origin(input));
+        }
+        if let Some(input) = text.strip_prefix("for ") {
+            return self.told_in_place(input);
         }
         match text.strip_prefix("out ") {
             Some(sent) => self.told_by_sent_text(sent),
@@ -202,8 +221,8 @@ fn has_marks(trace: &str) -> bool {
         .any(|line| line.starts_with("1: ") || line.starts_with("2: "))
 }
 
-/// The counts of a trace: of its lines that begin with `in `, `event `, `none free `, `out ` or `fault `, behind a controller's
-/// mark where there are two, and in front of words. All others are passed over.
+/// The counts of a trace: of its lines that begin with `in `, `for `, `event `, `none free `, `out ` or `fault `, behind a
+/// controller's mark where there are two, and in front of words. All others are passed over.
 pub fn summary_of_trace(alloc: Global, trace: &str) -> Result<RunSummary, TraceFault> {
     let mut run = RunSummary::new(alloc, has_marks(trace));
     for (index, line) in trace.split('\n').enumerate() {
