@@ -70,6 +70,10 @@ Lines for the simulators give no input but what comes of them; which channel eac
   > report 7 full=30 n=1:40,64:63
   > 2: answer 65535 released
   > 2: mobile 8 vanish
+  > restart 255
+  > restart 0 254
+  > 2: restart 0 1
+  > 2: restart 0
   > END
   $ ./lab run examples/two_cells.toml script.txt --peer examples/one_cell.toml 2>errors
   2: in a 9 000420040109
@@ -91,3 +95,6 @@ Lines for the simulators give no input but what comes of them; which channel eac
   script.txt:13: nothing comes of it: there is no call 7
   script.txt:14: nothing comes of it: the release of no channel of call 65535 is awaited
   script.txt:15: nothing comes of it: there is no call 8
+  script.txt:16: the site has no cell 255
+  script.txt:17: the site has no TRX 254 in cell 0
+  script.txt:18: the second controller's site has no TRX 1 in cell 0

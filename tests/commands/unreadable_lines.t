@@ -55,8 +55,13 @@ script; behind '=>' stands what is said of it.
   > mobile 1 stay => HABIT is arrive, return or vanish, found stay
   > mobile all return => CALL is 0 to 65535, found all
   > mobile 1 2 => TN is missing in mobile CELL TRX TN HABIT
-  > 2: # a comment => behind 2: stands open, seize, handover, undo, clear, expire, abis, a, report, answer, refuse, hold, let, mobile, double, cut or hangup, found #
-  > 2:  => behind 2: stands open, seize, handover, undo, clear, expire, abis, a, report, answer, refuse, hold, let, mobile, double, cut or hangup, found two blanks, or one at the end
+  > restart => CELL is missing in restart CELL
+  > restart 256 => CELL is 0 to 255, found 256
+  > 2: restart 0 x => TRX is 0 to 255, found x
+  > restart 0  => TRX is 0 to 255, found two blanks, or one at the end
+  > restart 0 0 3 => nothing stands behind restart CELL TRX, found 3
+  > 2: # a comment => behind 2: stands open, seize, handover, undo, clear, expire, abis, a, report, answer, refuse, hold, let, mobile, double, cut, restart or hangup, found #
+  > 2:  => behind 2: stands open, seize, handover, undo, clear, expire, abis, a, report, answer, refuse, hold, let, mobile, double, cut, restart or hangup, found two blanks, or one at the end
   > 2: sim 1 => sim is for both controllers, and stands without 2:
   > \0357\0273\0277sim => a byte order mark stands before the first word
   > undo 0123456789012345678901234567890123456789012345678901234567890 => CALL is 0 to 65535, found 012345678901234567890123456789012345678901234567890123456789..
@@ -65,10 +70,10 @@ script; behind '=>' stands what is said of it.
 Lines that begin with no word of theirs.
 
   $ say <<'END'
-  > opan 1 0 0 3 => a line begins with open, seize, handover, undo, clear, expire, abis, a, report, answer, sim, refuse, hold, let, mobile, double, cut or hangup, with 2: and a blank, or with #, found opan
-  >  open 1 0 0 3 => a line begins with open, seize, handover, undo, clear, expire, abis, a, report, answer, sim, refuse, hold, let, mobile, double, cut or hangup, with 2: and a blank, or with #, found a blank
-  > open\t1 0 0 3 => a line begins with open, seize, handover, undo, clear, expire, abis, a, report, answer, sim, refuse, hold, let, mobile, double, cut or hangup, with 2: and a blank, or with #, found open\t1
-  > 2:undo 1 => a line begins with open, seize, handover, undo, clear, expire, abis, a, report, answer, sim, refuse, hold, let, mobile, double, cut or hangup, with 2: and a blank, or with #, found 2:undo
+  > opan 1 0 0 3 => a line begins with open, seize, handover, undo, clear, expire, abis, a, report, answer, sim, refuse, hold, let, mobile, double, cut, restart or hangup, with 2: and a blank, or with #, found opan
+  >  open 1 0 0 3 => a line begins with open, seize, handover, undo, clear, expire, abis, a, report, answer, sim, refuse, hold, let, mobile, double, cut, restart or hangup, with 2: and a blank, or with #, found a blank
+  > open\t1 0 0 3 => a line begins with open, seize, handover, undo, clear, expire, abis, a, report, answer, sim, refuse, hold, let, mobile, double, cut, restart or hangup, with 2: and a blank, or with #, found open\t1
+  > 2:undo 1 => a line begins with open, seize, handover, undo, clear, expire, abis, a, report, answer, sim, refuse, hold, let, mobile, double, cut, restart or hangup, with 2: and a blank, or with #, found 2:undo
   > END
 
 Fields of a report, where there is one controller; behind '=>' stands how what is said of them ends.
@@ -112,7 +117,7 @@ line `sim` before them.
   line 2
   [2]
   $ name 'undo 1\nundu 1\n'
-  script.txt:2: a line begins with open, seize, handover, undo, clear, expire, abis, a, report, answer, sim, refuse, hold, let, mobile, double, cut or hangup, or with #, found undu
+  script.txt:2: a line begins with open, seize, handover, undo, clear, expire, abis, a, report, answer, sim, refuse, hold, let, mobile, double, cut, restart or hangup, or with #, found undu
   line 2
   [2]
   $ name 'undo 1\n2: undo 1\n'
@@ -129,6 +134,14 @@ line `sim` before them.
   [2]
   $ name 'hold 0 0 3 detection\nsim\n'
   script.txt:1: hold CELL TRX TN ANSWER needs a line sim before it
+  line 1
+  [2]
+  $ name 'restart 0\nsim\n'
+  script.txt:1: restart CELL needs a line sim before it
+  line 1
+  [2]
+  $ name '2: restart 0 1\n' --peer examples/one_cell.toml
+  script.txt:1: restart CELL TRX needs a line sim before it
   line 1
   [2]
   $ name '2: hangup 1\n' --peer examples/one_cell.toml
@@ -186,6 +199,9 @@ Lines that can be read, once the simulators are attached.
   > mobile 65535 vanish
   > let 0 0 3
   > mobile 0 0 3 arrive
+  > restart 0
+  > restart 000 01
+  > 2: restart 255
   > hangup 1
   > 2: open 1 0 0 3
   > 2: seize 1 0 half

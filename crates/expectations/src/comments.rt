@@ -1,5 +1,5 @@
 //! What comments of a script are, by their first characters.
-ghost use Rattle.std.specs.Prelude.{◌≡◌, codes, option_map};
+ghost use Rattle.std.specs.Prelude.{◌≡◌, bytes_eq, codes, option_map};
 ghost use Rattle.expectations.specs.Comments as said;
 
 /// How what comes of a script is recorded in comments.
@@ -26,6 +26,13 @@ pub fn held_in(line: &str) -> Option<&str>
     ensures held { option_map (λ text. text.now) result ≡ said.behind (codes "#= ") line.now }
 {
     line.strip_prefix("#= ")
+}
+
+/// Whether a comment says that the line before it is meant to come to nothing.
+pub fn is_meant_idle(line: &str) -> bool
+    ensures meant { result ≡ bytes_eq line.now (codes "#- idle") }
+{
+    line == "#- idle"
 }
 
 /// The path of the site over which a script is run: what stands behind `#% site `.

@@ -9,7 +9,7 @@ use crate::words::{has_words_like, have_same_name};
 
 /// Whether a message is an expected one: it has the same name, and all fields that are expected. `*` stands for any word, value, or
 /// part of a channel.
-fn is_part_met(part: &str, expected: &str) -> bool
+pub(crate) fn is_part_met(part: &str, expected: &str) -> bool
     ensures { result ≡ said.is_part_met part.now expected.now }
 {
     have_same_name(part, expected) && has_words_like(part, expected)

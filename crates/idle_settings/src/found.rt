@@ -1,7 +1,10 @@
 //! The lines of a script that come to nothing.
+use crate::inputs::lack_of_restart;
+use crate::lack::Lack;
 use crate::lines::{Kind, Line, chan_of, lines_of, without_line};
-use crate::played::{Asked, Texts, gives_trace, trace_of};
+use crate::played::{Asked, Taken, Texts, gives_trace, trace_of};
 use bts_model::{Act, Habit, Setting};
+use cell_table::Site;
 use channel_fsm::ChanId;
 use lab_runs::run::Sites;
 use lab_script::script::Side;
@@ -14,14 +17,16 @@ const MOST_PLAYED: usize = 100_000;
 /// Why a line of a script comes to nothing.
 #[derive(Clone, Copy, Debug, PartialEq, Eq)]
 pub enum Cause {
-    /// The site of this controller lacks the channel that it names.
-    NoChannel(Side, ChanId),
+    /// It asks something of a station, and there isn't this.
+    Lacks(Lack),
     /// Without it the same comes. It is about this channel.
     Unused(ChanId),
     /// Without it the same comes, as another line behind it takes its place. It is about this channel.
     Again(ChanId),
     /// It asks the book of its controller in vain.
     Unmet(Unmet),
+    /// It is an input of which nothing came, and could come in no state of the book, as there isn't this.
+    Input(Lack),
 }
 
 /// A line of a script that comes to nothing.
@@ -48,18 +53,31 @@ fn noted_first(
 pub struct Found<A: Allocator = Global> {
     /// They, in their order.
     pub idle: Vec<Idle, A>,
+    /// The calls that it opened under a number for which the switching centre asks.
+    pub taken: Vec<Taken, A>,
     /// Whether it was found out of each setting of the script.
     pub is_whole: bool,
 }
 
+/// The site of a side.
+fn site_of<A: Allocator + Copy>(sites: &Sites<A>, side: Side) -> Option<&Site<A>> {
+    match (side, &sites.peer) {
+        (Side::First, _) => Some(&sites.first),
+        (Side::Peer, Some(peer)) => Some(peer),
+        (Side::Peer, None) => None,
+    }
+}
+
 /// Whether the site of a side has a channel.
 fn has_channel<A: Allocator + Copy>(sites: &Sites<A>, side: Side, chan: ChanId) -> bool {
-    match side {
-        Side::First => sites.first.is_traffic(chan),
-        Side::Peer => match &sites.peer {
-            Some(peer) => peer.is_traffic(chan),
-            None => false,
-        },
+    site_of(sites, side).is_some_and(|site| site.is_traffic(chan))
+}
+
+/// What the site of its side lacks of the station that a line restarts.
+fn restart_lack<A: Allocator + Copy>(sites: &Sites<A>, line: Line) -> Option<Lack> {
+    match line.kind {
+        Kind::Restart(side, restart) => lack_of_restart(site_of(sites, side)?, side, restart),
+        Kind::Setting(..) | Kind::OfCall(_) | Kind::Input | Kind::Other => None,
     }
 }
 
@@ -201,7 +219,7 @@ impl<A: Allocator + Copy> Search<'_, A> {
 /// Whether some of what a script's lines give may come to nothing.
 fn may_be_idle(lines: &[Line]) -> bool {
     lines.iter().any(|line| match line.kind {
-        Kind::Setting(..) | Kind::OfCall(_) | Kind::Ask => true,
+        Kind::Setting(..) | Kind::OfCall(_) | Kind::Restart(..) | Kind::Input => true,
         Kind::Other => false,
     })
 }
@@ -211,7 +229,7 @@ fn setting_of(line: Line, asked: Option<Setting>) -> Option<Placed> {
     let (side, setting) = match line.kind {
         Kind::Setting(side, setting) => (side, setting),
         Kind::OfCall(side) => (side, asked?),
-        Kind::Ask | Kind::Other => return None,
+        Kind::Restart(..) | Kind::Input | Kind::Other => return None,
     };
     Some(Placed {
         number: line.number,
@@ -225,6 +243,33 @@ fn add_unmet<A: Allocator>(asked: &Asked<A>, idle: &mut Vec<Idle, A>) -> Result<
     for (line, unmet) in &asked.unmet {
         let cause = Cause::Unmet(*unmet);
         idle.push(Idle { line: *line, cause })?;
+    }
+    Ok(())
+}
+
+/// Adds the inputs of which nothing could come.
+fn add_inputs<A: Allocator>(asked: &Asked<A>, idle: &mut Vec<Idle, A>) -> Result<(), AllocError> {
+    for (line, lack) in &asked.inputs {
+        let cause = Cause::Input(*lack);
+        idle.push(Idle { line: *line, cause })?;
+    }
+    Ok(())
+}
+
+/// Adds the lines that restart a station that there isn't.
+fn add_restarts<A: Allocator + Copy>(
+    sites: &Sites<A>,
+    lines: &[Line],
+    idle: &mut Vec<Idle, A>,
+) -> Result<(), AllocError> {
+    for line in lines {
+        if let Some(lack) = restart_lack(sites, *line) {
+            let cause = Cause::Lacks(lack);
+            idle.push(Idle {
+                line: line.number,
+                cause,
+            })?;
+        }
     }
     Ok(())
 }
@@ -248,7 +293,7 @@ fn settings_of<A: Allocator + Copy>(
             }
             Some(placed) => idle.push(Idle {
                 line: placed.number,
-                cause: Cause::NoChannel(placed.side, placed.chan()),
+                cause: Cause::Lacks(Lack::Channel(placed.side, placed.chan())),
             })?,
             None => {}
         }
@@ -278,9 +323,10 @@ fn look_at_all<A: Allocator + Copy>(
 }
 
 /// The lines of a script that come to nothing over sites: settings for a channel that a site lacks; settings without which the same
-/// comes of each line, one after another, until each that is left matters (but for `let` and `arrive`, which set back, and where more
-/// than 100,000 lines would be played for it); lines that ask a controller's book in vain. Nothing is said of a script that can't be
-/// read, nor where a text describes no site.
+/// comes of each line, one after another, until each that is left matters (but for `let`, `arrive` and `restart`, which set back, and
+/// where more than 100,000 lines would be played for it); lines that ask a controller's book in vain; inputs of which nothing came, and
+/// nothing could, because there isn't the cell, the TRX, the channel or the call. Nothing is said of a script that can't be read, nor
+/// where a text describes no site.
 pub fn idle_settings<A: Allocator + Copy>(
     alloc: A,
     sites: Texts<'_>,
@@ -288,6 +334,7 @@ pub fn idle_settings<A: Allocator + Copy>(
 ) -> Result<Found<A>, LabFault> {
     let mut found = Found {
         idle: Vec::new(alloc),
+        taken: Vec::new(alloc),
         is_whole: true,
     };
     let lines = lines_of(alloc, script, sites.peer.is_some())?;
@@ -302,11 +349,14 @@ pub fn idle_settings<A: Allocator + Copy>(
         return Ok(found);
     };
     add_unmet(&asked, &mut found.idle)?;
+    add_inputs(&asked, &mut found.idle)?;
+    add_restarts(&read, &lines, &mut found.idle)?;
     let settings = settings_of(alloc, &read, &lines, &asked, &mut found.idle)?;
     found.is_whole = lines.len().saturating_mul(settings.len()) <= MOST_PLAYED;
     if found.is_whole {
         found.idle = look_at_all(alloc, sites, script, &trace, &settings, found.idle)?;
     }
     found.idle.sort_unstable_by_key(|idle| idle.line);
+    found.taken = asked.taken;
     Ok(found)
 }

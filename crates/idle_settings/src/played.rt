@@ -1,8 +1,11 @@
 //! A script that is played, and what comes of each of its lines.
+use crate::inputs::{lack_of, opened_in, taken_in};
+use crate::lack::Lack;
 use crate::lines::{Line, lines_of};
 use bts_model::Setting;
 use cell_table::{Site, SiteFault};
 use lab_runs::run::{Sites, play, read_sites};
+use lab_script::script::Side;
 use radio_book::book::Book;
 use run_listeners::{LabFault, Listener, Printing, Turn, Unmet};
 use std::alloc::{AllocError, Allocator, Global};
@@ -48,11 +51,37 @@ impl Write for Matching<'_> {
     }
 }
 
-/// What lines asked of the mobile of a call, and why nothing came of those that asked in vain, behind their numbers.
+/// A call that a script opened under a number for which the simulated switching centre then asks.
+#[derive(Clone, Copy, Debug, PartialEq, Eq)]
+pub struct Taken {
+    /// The number of the line that opened it, counted from 1.
+    pub line: usize,
+    pub call: u16,
+    /// The number of the line behind which the centre asks first.
+    pub asked: usize,
+}
+
+/// A call that a line opened.
+#[derive(Clone, Copy)]
+pub(crate) struct Opened {
+    line: usize,
+    side: Side,
+    call: u16,
+}
+
+/// What was noted of lines, by their numbers.
 #[derive(Drop)]
 pub(crate) struct Asked<A: Allocator = Global> {
+    /// What lines asked of the mobile of a call.
     pub settings: Vec<(usize, Setting), A>,
+    /// Why nothing came of those that asked in vain.
     pub unmet: Vec<(usize, Unmet), A>,
+    /// What there isn't, where nothing could come of an input.
+    pub inputs: Vec<(usize, Lack), A>,
+    /// The calls that were opened.
+    opened: Vec<Opened, A>,
+    /// Those for which the switching centre asked.
+    pub taken: Vec<Taken, A>,
 }
 
 impl<A: Allocator + Copy> Asked<A> {
@@ -61,6 +90,45 @@ impl<A: Allocator + Copy> Asked<A> {
         Asked {
             settings: Vec::new(alloc),
             unmet: Vec::new(alloc),
+            inputs: Vec::new(alloc),
+            opened: Vec::new(alloc),
+            taken: Vec::new(alloc),
+        }
+    }
+
+    /// The line that opened a call last.
+    fn line_of(&self, side: Side, call: u16) -> Option<usize> {
+        let mut opened = self.opened.iter().rev();
+        let found = opened.find(|opened| opened.side == side && opened.call == call)?;
+        Some(found.line)
+    }
+
+    /// Notes that the switching centre asked for a call which a line opened, the first time.
+    fn note_taken(&mut self, side: Side, call: u16, asked: usize) -> Result<(), AllocError> {
+        match self.line_of(side, call) {
+            Some(line) if self.taken.iter().all(|taken| taken.line != line) => {
+                Ok(self.taken.push(Taken { line, call, asked })?)
+            }
+            Some(_) | None => Ok(()),
+        }
+    }
+
+    /// Notes what a turn, behind the line of a number, says of its line, and of calls.
+    fn note(&mut self, number: usize, turn: &Turn<A>, book: &Book<A>) -> Result<(), AllocError> {
+        let alloc = *self.unmet.allocator();
+        if let Some(lack) = lack_of(alloc, book.site(), turn)? {
+            self.inputs.push((number, lack))?;
+        }
+        if let Some(call) = opened_in(turn) {
+            self.opened.push(Opened {
+                line: number,
+                side: turn.side,
+                call,
+            })?;
+        }
+        match taken_in(alloc, turn)? {
+            Some(call) => self.note_taken(turn.side, call, number),
+            None => Ok(()),
         }
     }
 }
@@ -111,6 +179,7 @@ impl<W: Write, A: Allocator + Copy> Listener<A> for Hearing<'_, '_, '_, W, A> {
     }
 
     fn hear_turn(&mut self, mark: Mark, turn: &Turn<A>, book: &Book<A>) -> Result<(), LabFault> {
+        self.asked.note(self.number, turn, book)?;
         self.print_number()?;
         Printing::new(self.out).hear_turn(mark, turn, book)
     }

@@ -5,6 +5,7 @@ ghost use Rattle.std.specs.Str.Lossy.{utf8_valid_len};
 ghost use Rattle.lab.specs.Files.{longest_file};
 
 use crate::run_reason::{say_cut_script, say_refusal};
+use crate::script_names::without_names;
 use crate::script_notes::say_idle_settings;
 use crate::script_sites::{say_other_sites, sites_named_by};
 use crate::site_files::{GivenPaths, SitePaths, SiteSources, SiteTexts, in_files, site_texts};
@@ -168,6 +169,7 @@ fn run_texts<R: Files + AllocGlobal, W: Write, E: Write>(
     };
     say_cut_script(path, &script, errors)?;
     say_other_sites(rt, given, path, &script, errors)?;
+    let script = without_names(rt.alloc(), path, &sites, script, errors)?;
     Ok(Some(RunTexts { sites, script }))
 }
 

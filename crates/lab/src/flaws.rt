@@ -1,16 +1,17 @@
 //! What of a script makes that it isn't met, whatever comes of it; and the test of a script that may have such flaws.
 //!
 //! No clause says what is printed: that is shown by tests.
+use crate::absences::has_absences_alone;
 use crate::script_files::worse;
 use crate::script_notes::{say_idle_settings, say_never};
 use crate::site_files::SiteTexts;
-use idle_settings::Idle;
+use idle_settings::{Cause, Idle};
 use lab_runs::run::Status;
 use run_listeners::LabFault;
-use std::alloc::Global;
+use std::alloc::{AllocError, Global};
 use std::io::Write;
 use tested_scripts::tested::test_run;
-use tested_scripts::{Miss, NeverLine, Reasons, Told, print_met, print_not_met};
+use tested_scripts::{Miss, NeverLine, Reasons, Told, lines_of, print_met, print_not_met};
 
 /// A test among others: its number, counted from 1, and its name.
 #[derive(Clone, Copy)]
@@ -19,15 +20,40 @@ pub(crate) struct Numbered<'a> {
     pub name: &'a str,
 }
 
+/// What is known of a script's lines before it is run.
+#[derive(Drop)]
+pub(crate) struct Marks {
+    /// The numbers of comments that look like expectations, and aren't.
+    pub slipped: Vec<usize>,
+    /// The number of the line up to which it is run, which can't be read.
+    pub unread: Option<usize>,
+}
+
 /// What of a script makes that it isn't met, whatever comes of it.
 #[derive(Drop)]
 pub(crate) struct Flaws<'a> {
-    /// The numbers of comments that look like expectations, and aren't.
-    slipped: Vec<usize>,
-    /// Lines that come to nothing.
+    marks: Marks,
+    /// Lines that come to nothing, and shouldn't.
     idle: Vec<Idle>,
     /// Lines that nothing can meet, or miss.
     never: Vec<NeverLine<'a>>,
+}
+
+/// Whether a line that comes to nothing makes that the script isn't met. An input does where all that is expected behind it is
+/// that something doesn't come.
+fn is_flaw(lines: &[&str], idle: Idle) -> bool {
+    match idle.cause {
+        Cause::Input(_) => has_absences_alone(lines, idle.line),
+        Cause::Lacks(_) | Cause::Unused(_) | Cause::Again(_) | Cause::Unmet(_) => true,
+    }
+}
+
+/// Those of the lines of a script that come to nothing which make that it isn't met.
+fn flaws_in(alloc: Global, script: &str, idle: Vec<Idle>) -> Result<Vec<Idle>, AllocError> {
+    let lines = lines_of(alloc, script)?;
+    let mut idle = idle;
+    idle.retain(|line| is_flaw(&lines, *line));
+    Ok(idle)
 }
 
 /// Says which flaws a script has beside comments that have slipped, and answers all.
@@ -36,12 +62,13 @@ pub(crate) fn say_flaws<'a, E: Write>(
     path: &str,
     sites: &SiteTexts,
     script: &'a str,
-    slipped: Vec<usize>,
+    marks: Marks,
     errors: &mut E,
 ) -> Result<Flaws<'a>, LabFault> {
+    let idle = say_idle_settings(alloc, path, sites, script, errors)?;
     Ok(Flaws {
-        slipped,
-        idle: say_idle_settings(alloc, path, sites, script, errors)?,
+        marks,
+        idle: flaws_in(alloc, script, idle)?,
         never: say_never(alloc, path, sites, script, errors)?,
     })
 }
@@ -76,8 +103,11 @@ fn tell_flaws(
     flaws: &Flaws<'_>,
     reasons: &mut Reasons<Global>,
 ) -> Result<(), LabFault> {
-    for line in &flaws.slipped {
+    for line in &flaws.marks.slipped {
         reasons.tell(Miss::Slipped(*line))?;
+    }
+    if let Some(line) = flaws.marks.unread {
+        reasons.tell(Miss::Unreadable(line))?;
     }
     for setting in &flaws.idle {
         reasons.tell(Miss::Idle(setting.line))?;
@@ -88,9 +118,11 @@ fn tell_flaws(
     Ok(())
 }
 
-/// How a test ends, by whether its script has flaws, and by how its run ended.
-fn ended_by(has_flaws: bool, run: Status) -> Status {
-    if has_flaws {
+/// How a test ends, by whether its script has flaws, and by how its run ended. One that isn't run to its end is refused.
+fn ended_by(flaws: &Flaws<'_>, has_flaws: bool, run: Status) -> Status {
+    if flaws.marks.unread.is_some() {
+        Status::Refused
+    } else if has_flaws {
         worse(Status::Differs, run)
     } else {
         run
@@ -112,7 +144,7 @@ pub(crate) fn test_flawed<W: Write>(
     tell_flaws(alloc, flaws, &mut reasons)?;
     let has_flaws = !reasons.is_empty();
     let run = test_run(alloc, alloc, first, peer, script, &mut reasons)?;
-    let ended = ended_by(has_flaws, run);
+    let ended = ended_by(flaws, has_flaws, run);
     match ended {
         Status::Done => print_met(out, test.number, test.name)?,
         Status::Differs | Status::Refused => {

@@ -9,6 +9,7 @@
 //! here too, as are the reader of scripts (`script`) and the trace (`trace`, `bad`).
 #![tactic(auto)]
 
+mod absences;
 pub mod check;
 pub mod decoded;
 pub mod encoded;
@@ -24,6 +25,7 @@ pub mod live;
 pub mod program;
 mod run_reason;
 pub mod script_files;
+mod script_names;
 mod script_notes;
 mod script_sites;
 pub mod site_files;

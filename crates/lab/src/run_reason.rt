@@ -4,6 +4,7 @@
 //! `script_reasons` says.
 use crate::script_notes::say_bare_returns;
 use crate::site_files::{SiteSources, SiteTexts, say_reasons};
+use expectations::has_name;
 use lab_script::script::{ScriptFault, read_script};
 use run_listeners::LabFault;
 use screen_text::Escaped;
@@ -56,7 +57,15 @@ fn say_reason<E: Write>(
     }
 }
 
-/// Says why the first line of a script that can't be read can't be, if there is one.
+/// Whether the line of a script of this number, counted from 1, has names.
+fn names_at(script: &str, number: usize) -> bool {
+    script
+        .split('\n')
+        .nth(number.saturating_sub(1))
+        .is_some_and(|line| has_name(line))
+}
+
+/// Says why the first line of a script that can't be read can't be, if there is one. Of a line with names that was said before.
 pub(crate) fn say_line<E: Write>(
     alloc: Global,
     path: &str,
@@ -70,6 +79,10 @@ pub(crate) fn say_line<E: Write>(
         Err(ScriptFault::Line(line)) => line,
         Err(ScriptFault::NoMemory) => return Err(LabFault::NoMemory),
     };
+    if names_at(script, line) {
+        // that one stands for nothing was said before
+        return Ok(());
+    }
     if let Some(reason) = script_reason(script, line, has_peer) {
         say_reason(path, line, reason, naming, errors)?;
     }

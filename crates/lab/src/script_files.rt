@@ -1,9 +1,10 @@
 //! Tests and records of scripts in files.
 use crate::files::text_of;
-use crate::flaws::{Numbered, say_flaws, test_flawed};
+use crate::flaws::{Marks, Numbered, say_flaws, test_flawed};
 use crate::junit::Report;
 use crate::kept::{is_folder_there, keep_run};
 use crate::run_reason::{Naming, say_cut_script, say_line, say_refusal};
+use crate::script_names::{say_names, without_names};
 use crate::script_notes::{say_idle_settings, say_slipped};
 use crate::script_sites::{
     GivenSites, ScriptSites, fault_of, say_other_sites, sites_named_by, sites_of_script,
@@ -21,7 +22,7 @@ use std::alloc::Global;
 use std::io::{self, Write};
 use std::rt::Files;
 use tested_scripts::recorded::record_run;
-use tested_scripts::{Miss, print_miss, print_plan};
+use tested_scripts::{Miss, Named, print_miss, print_plan};
 use undone_runs::tried::{Trial, try_undos};
 use undone_runs::{Tally, print_tally};
 
@@ -49,6 +50,18 @@ struct TestedScript<'a> {
     slipped: Vec<usize>,
 }
 
+/// The text of a script that is tested: with values in the place of its names, up to the line that can't be read because of one; and
+/// the number of that line.
+fn tested_of<'a>(named: Option<&'a Named>, script: &'a str) -> (&'a str, Option<usize>) {
+    let Some(named) = named else {
+        return (script, None);
+    };
+    match &named.unnamed {
+        Some(unnamed) => (unnamed.front.as_str(), Some(unnamed.line)),
+        None => (named.text.as_str(), None),
+    }
+}
+
 /// Tests a script over sites that can be run over, and keeps it in a folder, where one is given and it isn't met.
 fn test_over<R: Files + AllocGlobal, W: Write, E: Write>(
     rt: &R,
@@ -66,7 +79,10 @@ fn test_over<R: Files + AllocGlobal, W: Write, E: Write>(
         slipped,
     } = script;
     let has_peer = sites.peer().is_some();
-    let flaws = say_flaws(alloc, test.name, sites, text, slipped, errors)?;
+    let named = say_names(alloc, test.name, sites, text, errors)?;
+    let (text, unread) = tested_of(named.as_ref(), text);
+    let marks = Marks { slipped, unread };
+    let flaws = say_flaws(alloc, test.name, sites, text, marks, errors)?;
     let status = test_flawed(alloc, sites, text, test, &flaws, out)?;
     if status == Status::Refused {
         // the sites were read before
@@ -275,22 +291,23 @@ fn try_over<W: Write, E: Write>(
     alloc: Global,
     sites: &SiteTexts,
     naming: Naming,
-    script: &str,
+    script: String,
     name: &str,
     tally: &mut Tally,
     out: &mut W,
     errors: &mut E,
 ) -> Result<Status, LabFault> {
+    let script = without_names(alloc, name, sites, script, errors)?;
     let trial = Trial {
         site: sites.first(),
         peer: sites.peer(),
-        script,
+        script: &script,
         name,
     };
     let status = try_undos(alloc, alloc, trial, tally, out)?;
     if status == Status::Refused {
         // the sites were read before
-        say_line(alloc, name, script, trial.peer.is_some(), naming, errors)?;
+        say_line(alloc, name, &script, trial.peer.is_some(), naming, errors)?;
     }
     Ok(status)
 }
@@ -313,11 +330,11 @@ fn try_file<R: Files + AllocGlobal, W: Write, E: Write>(
     match sites_of_script(rt, given, name, &script, errors)? {
         ScriptSites::Given(texts) => {
             let naming = Naming::Given;
-            try_over(alloc, texts, naming, &script, name, tally, out, errors)
+            try_over(alloc, texts, naming, script, name, tally, out, errors)
         }
         ScriptSites::Named(texts) => {
             let naming = Naming::InScript;
-            try_over(alloc, &texts, naming, &script, name, tally, out, errors)
+            try_over(alloc, &texts, naming, script, name, tally, out, errors)
         }
         ScriptSites::Unreadable(miss) => {
             print_miss(out, tally.next(), name, miss)?;
@@ -402,6 +419,7 @@ fn record_over<R: Files + AllocGlobal, W: Write, E: Write>(
     }
     say_cut_script(script, &text, errors)?;
     say_other_sites(rt, sources, script, &text, errors)?;
+    let text = without_names(alloc, script, &sites, text, errors)?;
     let peer = sites.peer();
     let status = record_run(alloc, alloc, sites.first(), peer, &text, recording, out)?;
     if status == Status::Refused {

@@ -2,16 +2,17 @@
 //! returns, and settings that come to nothing.
 //!
 //! No clause says what the lines hold: that is shown by tests.
+use crate::absences::{expects_a_line, is_meant};
 use crate::site_files::SiteTexts;
 use expectations::{is_slipped, names_no_site};
-use idle_settings::{Cause, Idle, Texts, idle_settings};
+use idle_settings::{Cause, Found, Idle, Taken, Texts, idle_settings};
 use lab_runs::run::read_sites;
-use lab_script::script::{Side, without_return};
+use lab_script::script::without_return;
 use run_listeners::LabFault;
 use screen_text::Escaped;
 use std::alloc::{AllocError, Global};
 use std::io::{self, Write};
-use tested_scripts::{NeverLine, Told, never_lines};
+use tested_scripts::{NeverLine, Told, lines_of, never_lines};
 
 /// Whether a comment has something to do with the name of a site: `%` stands behind the number signs, blanks and tabs that begin it.
 fn is_of_site(line: &str) -> bool {
@@ -90,20 +91,41 @@ fn say_idle<E: Write>(path: &str, idle: Idle, errors: &mut E) -> io::Result<()> 
                 "{path}:{line}: said again before it is used: nothing comes of it on {chan}"
             )
         }
-        Cause::NoChannel(Side::First, chan) => {
-            writeln!(errors, "{path}:{line}: the site has no channel {chan}")
-        }
-        Cause::NoChannel(Side::Peer, chan) => {
-            writeln!(
-                errors,
-                "{path}:{line}: the second controller's site has no channel {chan}"
-            )
-        }
+        Cause::Lacks(lack) => writeln!(errors, "{path}:{line}: {lack}"),
         Cause::Unmet(unmet) => writeln!(errors, "{path}:{line}: nothing comes of it: {unmet}"),
+        Cause::Input(lack) => writeln!(errors, "{path}:{line}: nothing comes of it: {lack}"),
     }
 }
 
-/// Says which lines of a script come to nothing, and answers them.
+/// Says which call a line of a script opened under a number for which the switching centre asks.
+fn say_taken<E: Write>(path: &str, taken: Taken, errors: &mut E) -> io::Result<()> {
+    let Taken { line, call, asked } = taken;
+    writeln!(
+        errors,
+        "{}:{line}: opens call {call}, for which the switching centre asks in line {asked}",
+        Escaped(path)
+    )
+}
+
+/// Whether a line of a script that comes to nothing is told: it isn't said that this is meant, nor what comes of an input.
+fn is_told(lines: &[&str], idle: Idle) -> bool {
+    let is_known = match idle.cause {
+        Cause::Input(_) => expects_a_line(lines, idle.line),
+        Cause::Lacks(_) | Cause::Unused(_) | Cause::Again(_) | Cause::Unmet(_) => false,
+    };
+    !is_known && !is_meant(lines, idle.line)
+}
+
+/// Those of the lines of a script that come to nothing which are told.
+fn told_of(alloc: Global, script: &str, idle: Vec<Idle>) -> Result<Vec<Idle>, AllocError> {
+    let lines = lines_of(alloc, script)?;
+    let mut idle = idle;
+    idle.retain(|line| is_told(&lines, *line));
+    Ok(idle)
+}
+
+/// Says which lines of a script come to nothing and aren't meant to, and answers them; and which calls have a number for which the
+/// switching centre asks.
 pub(crate) fn say_idle_settings<E: Write>(
     alloc: Global,
     path: &str,
@@ -116,18 +138,26 @@ pub(crate) fn say_idle_settings<E: Write>(
         first: texts.first(),
         peer: texts.peer(),
     };
-    let found = idle_settings(alloc, sites, script)?;
-    for line in &found.idle {
+    let Found {
+        idle,
+        taken,
+        is_whole,
+    } = idle_settings(alloc, sites, script)?;
+    let idle = told_of(alloc, script, idle)?;
+    for line in &idle {
         say_idle(path, *line, errors)?;
     }
-    if !found.is_whole {
+    for call in &taken {
+        say_taken(path, *call, errors)?;
+    }
+    if !is_whole {
         writeln!(
             errors,
             "{}: what settings come to isn't looked at: over 100,000 lines would be played for it",
             Escaped(path)
         )?;
     }
-    Ok(found.idle)
+    Ok(idle)
 }
 
 /// Says which comments of a script say that a line comes, or that none does, where none ever can be so, and answers them. Nothing is

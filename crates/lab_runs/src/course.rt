@@ -9,7 +9,7 @@ use crate::controllers::Controllers;
 use crate::simulators::Simulators;
 use crate::turn::{Spare, TurnFault};
 use crate::waiting::{Arrival, Waiting};
-use bts_model::{Act, Habit, Setting};
+use bts_model::{Act, Habit, Restart, Setting};
 use cell_table::Site;
 use exchange::Inbound;
 use lab_script::asked::Asked;
@@ -212,6 +212,17 @@ impl<A: Allocator + Copy> Course<A> {
         }
     }
 
+    /// A simulated station restarts. What its controller hears of that waits.
+    fn restart(&mut self, restart: Restart, waiting: &mut Waiting<A>) -> Result<(), AllocError>
+        ensures went { OnOk result (Went [] self.old self.new) }
+        ensures sim { OnOk result (has_simulators self.new ≡ has_simulators self.old) }
+    {
+        match &mut self.simulators {
+            Some(simulators) => simulators.restart(restart, waiting),
+            None => Ok(()),
+        }
+    }
+
     /// The simulated switching centre hangs up a call. What it sends then waits.
     fn hang_up(&self, side: Side, call: u16, waiting: &mut Waiting<A>) -> Result<(), AllocError> {
         match &self.simulators {
@@ -319,6 +330,7 @@ impl<A: Allocator + Copy> Course<A> {
             Given::MobileOf { call, habit } => {
                 self.set_mobile(side, call, habit, waiting, listener)
             }
+            Given::Restart(restart) => Ok(self.restart(restart, waiting)?),
         }
     }
 

@@ -240,6 +240,13 @@ pub(crate) fn is_of_call(rest: Option<&str>) -> bool
     }
 }
 
+/// Whether what is left of a line has two words or more.
+pub(crate) fn has_second(rest: Option<&str>) -> bool
+    ensures { result ≡ said.has_second (option_map (λ text. text.now) rest.entry) }
+{
+    behind(rest).is_some()
+}
+
 /// Whether what is left of a line has four words or more.
 pub(crate) fn has_fourth(rest: Option<&str>) -> bool
     ensures { result ≡ said.has_fourth (option_map (λ text. text.now) rest.entry) }

@@ -32,6 +32,8 @@ to 7, with /0 or /1 behind it for half rate):
   mobile CALL HABIT           behind sim: the same of the call's, on the channel that it has then
   double CELL TRX TN          behind sim: the next answer about the channel comes twice
   cut CELL TRX TN N           behind sim: the next answer is cut to N octets, 1 to 255
+  restart CELL                behind sim: the station of a cell restarts, and its channels fail
+  restart CELL TRX            behind sim: the same of one TRX
   hangup CALL                 behind sim: the switching centre hangs up
   2: LINE                     with --peer: each of these but sim, for the second controller
   # TEXT                      a comment",

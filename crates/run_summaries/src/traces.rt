@@ -76,8 +76,12 @@ fn input_of<A: Allocator + Copy>(alloc: A, text: &str) -> Result<Option<Inbound<
 fn input_in<A: Allocator>(given: Given<A>) -> Option<Inbound<A>> {
     match given {
         Given::Input(input) => Some(input),
-        Given::Attach | Given::Set(_) | Given::HangUp(_) | Given::Ask(_) | Given::MobileOf { .. } =>
-            None,
+        Given::Attach
+        | Given::Set(_)
+        | Given::HangUp(_)
+        | Given::Ask(_)
+        | Given::MobileOf { .. }
+        | Given::Restart(_) => None,
     }
 }
 

@@ -8,6 +8,7 @@ mod gathered;
 mod heard;
 mod lines;
 mod misses;
+mod named;
 mod nearest;
 mod never;
 mod never_messages;
@@ -16,9 +17,11 @@ mod printed;
 mod reasons;
 pub mod recorded;
 pub mod tested;
+mod values;
 
 pub use compare::{CameLine, Difference, find_difference, find_last_difference};
 pub use lines::{expected_in, is_any, is_script_line, lines_of, part_end};
+pub use named::{Named, Unnamed, named_script};
 pub use nearest::Nearest;
 pub use never::{Never, NeverLine, Told, never_lines};
 pub use printed::{

@@ -352,6 +352,8 @@ fn is_silent(line: &str) -> bool {
             | Form::Abis
             | Form::A
             | Form::Let
+            | Form::Restart
+            | Form::RestartTrx
             | Form::HangUp
             | Form::Report
             | Form::Answer,
