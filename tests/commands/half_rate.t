@@ -40,8 +40,8 @@ Its chart, and the packet of a message:
    08 21 01 1b 03 00 06 04 00 01 09 01
 
 Calls 1 and 2 are to move to the two halves of timeslot 3. Both attempts are undone, and both halves await their release
-at once; that of the second half comes first. Each line of the trace is a row of the chart; a row has a height of 20, and
-the first bar of a row stands from 52 on. So a bar is told by its first and its last line: the one in which its attempt
+at once; that of the second half comes first. Each line of the trace is a row of the whole chart; a row has a height of 20, and
+the first bar of a row stands from 72 on. So a bar is told by its first and its last line: the one in which its attempt
 opens, and the one in which its own half is released. The bars stand in the order of the openings.
 
   $ cat >halves.txt <<'END'
@@ -56,7 +56,7 @@ opens, and the one in which its own half is released. The bars stand in the orde
   > abis 0 0 0833011b
   > abis 0 0 08330113
   > END
-  $ ./lab run examples/half_rate.toml halves.txt --chart run.svg | grep -n -e ' take ' -e ' undo . ' -e ' released '
+  $ ./lab run examples/half_rate.toml halves.txt --chart run.svg --chart-all | grep -n -e ' take ' -e ' undo . ' -e ' released '
   15:event take 1 internal 0/0/3/0 -> done
   21:event take 2 internal 0/0/3/1 -> done
   26:event undo 1 asked -> record 1/1/3/0 on internal sent 0/0/3/0 0
@@ -64,7 +64,7 @@ opens, and the one in which its own half is released. The bars stand in the orde
   32:event released 0/0/3/1 -> done
   34:event released 0/0/3/0 -> done
   $ bars() { sed -n 's/^<rect x="[0-9]*" y="\([0-9]*\)" width="11" height="\([0-9]*\)" fill="url(#hatched)".*/\1 \2/p' run.svg; }
-  $ bars | while read y height; do test "$y" -lt 52 || echo "$(((y - 52) / 20 + 1)) $(((y - 52 + height - 18) / 20 + 1))"; done
+  $ bars | while read y height; do test "$y" -lt 72 || echo "$(((y - 72) / 20 + 1)) $(((y - 72 + height - 18) / 20 + 1))"; done
   15 34
   21 32
   $ grep -o '>call [12]<' run.svg

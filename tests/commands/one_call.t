@@ -88,10 +88,11 @@ Of two controllers the lines of either's call of that number are shown.
   1: end channels=2 calls=2 references=0 timers=0
   2: end channels=1 calls=1 references=0 timers=0
 
-On a chart inputs keep their numbers; counts and captures have all.
+On a chart, whose title names the call, inputs keep their numbers; counts and captures have all.
 
   $ ./lab run examples/two_cells.toml two_calls.txt --call 2 --chart run.svg --pcap run.pcap --summary >printed
   $ sed -n 's/^<text x="12" .*>\(.*\)<.text>$/\1/p' run.svg
+  two_calls.txt over examples/two_cells.toml, call 2
   3 open 2 0 0 2
   4
   7 clear 2

@@ -9,6 +9,7 @@ use std::alloc::Global;
 use std::cell::Cell;
 use std::fs::OpenFile;
 use std::io::Write;
+use std::rt::Files;
 use view_options::Views;
 
 /// A script over a site, or over two where a peer's is given, all as texts, and what is to be seen of its run.
@@ -17,6 +18,8 @@ pub struct AskedRun<'a> {
     pub site: &'a str,
     pub peer: Option<&'a str>,
     pub script: &'a str,
+    /// The title of its chart.
+    pub title: &'a str,
     pub views: &'a Views<'a>,
 }
 
@@ -38,6 +41,7 @@ fn audit_told<W: Write>(
         site,
         peer,
         script,
+        title: _,
         views: _,
     } = asked;
     let mut noting = Noting::new(alloc, viewer, printed);
@@ -61,23 +65,24 @@ fn summed<T: Drop, W: Write>(
 
 /// Runs a script with a viewer that prints to a writer which counts lines, and writes what it gathered to the files of its
 /// views, where something was run.
-fn run_counted<F: Write + OpenFile + Drop, W: Write, E: Write>(
-    alloc: Global,
+fn run_counted<R: Files + AllocGlobal, F: Write + OpenFile + Drop, W: Write, E: Write>(
+    rt: &R,
     asked: AskedRun<'_>,
     sheets: Sheets<'_, F>,
     printed: &Cell<usize>,
     out: &mut W,
     errors: &mut E,
 ) -> Result<Ended, LabFault> {
+    let alloc = rt.alloc();
     let mut viewer = Viewer::new(alloc, asked.views, asked.peer.is_some(), out)?;
-    viewer.note_script(asked.script)?;
+    viewer.note_script(asked.title, asked.script)?;
     let ended = summed(
         alloc,
         audit_told(alloc, asked, &mut viewer, printed),
         &mut viewer,
     );
     let written = if viewer.has_begun() {
-        sheets.finish(&viewer, errors)
+        sheets.finish(rt, &viewer, errors)
     } else {
         Ok(())
     };
@@ -85,8 +90,8 @@ fn run_counted<F: Write + OpenFile + Drop, W: Write, E: Write>(
 }
 
 /// Runs a script with a viewer that prints to any writer.
-fn run_viewed<F: Write + OpenFile + Drop, W: Write, E: Write>(
-    alloc: Global,
+fn run_viewed<R: Files + AllocGlobal, F: Write + OpenFile + Drop, W: Write, E: Write>(
+    rt: &R,
     asked: AskedRun<'_>,
     sheets: Sheets<'_, F>,
     out: &mut W,
@@ -94,21 +99,21 @@ fn run_viewed<F: Write + OpenFile + Drop, W: Write, E: Write>(
 ) -> Result<Ended, LabFault> {
     let printed = Cell::new(0);
     let mut counted = CountedLines::new(out, &printed);
-    run_counted(alloc, asked, sheets, &printed, &mut counted, errors)
+    run_counted(rt, asked, sheets, &printed, &mut counted, errors)
 }
 
 /// Runs a script with views, as [`run_for`](lab_runs::run::run_for) does, tells what comes of it, and prints behind the
 /// trace's end, and behind its summary where that is asked for, what the audits of its controllers come to
 /// ([`print_audits`]). The files of the views are written once the run ended, but not where nothing is run. The answer is
 /// `Refused` then, else `Done` or `Differs` by the audits.
-pub fn audit_viewed<F: Write + OpenFile + Drop, W: Write, E: Write>(
-    alloc: Global,
+pub fn audit_viewed<R: Files + AllocGlobal, F: Write + OpenFile + Drop, W: Write, E: Write>(
+    rt: &R,
     asked: AskedRun<'_>,
     sheets: Sheets<'_, F>,
     out: &mut W,
     errors: &mut E,
 ) -> Result<Status, LabFault> {
-    let (audits, written) = run_viewed(alloc, asked, sheets, out, errors)?;
+    let (audits, written) = run_viewed(rt, asked, sheets, out, errors)?;
     let status = match audits {
         Some((audits, beside)) => print_audits(out, &audits, &beside)?,
         None => Status::Refused,

@@ -16,7 +16,7 @@ use lab_words::Ending;
 use run_listeners::LabFault;
 use run_views::{Viewer, open_sheets};
 use screen_text::{Escaped, Reason};
-use std::alloc::{Allocator, Global};
+use std::alloc::{AllocError, Allocator, Global};
 use std::fmt;
 use std::fs::File;
 use std::io::{self, Read, Write};
@@ -150,6 +150,51 @@ struct RunTexts {
     script: String,
 }
 
+/// Where a run's script and sites come from.
+#[derive(Clone, Copy)]
+struct RunPaths<'a> {
+    sites: SiteSources<'a>,
+    script: &'a str,
+}
+
+/// A run that is viewed: its script and sites as texts, the title of its chart, and the paths that no later page of that may have.
+#[derive(Clone, Copy)]
+pub(crate) struct ViewedRun<'a> {
+    pub title: &'a str,
+    pub kept: &'a [&'a str],
+    pub sites: &'a SiteTexts,
+    pub script: &'a str,
+}
+
+/// The title of a run's chart: its script and its sites.
+pub(crate) fn title_of(
+    alloc: Global,
+    script: &str,
+    sites: &SiteTexts,
+) -> Result<String, AllocError> {
+    format!(in alloc; "{script} over {}", sites.names())
+}
+
+/// The paths of those files of a run that no later page of its chart may be.
+fn kept_paths<'a>(
+    alloc: Global,
+    paths: RunPaths<'a>,
+    views: &Views<'a>,
+) -> Result<Vec<&'a str>, AllocError> {
+    let mut kept = Vec::new(alloc);
+    kept.push(paths.script)?;
+    if let Some(first) = paths.sites.first.path() {
+        kept.push(first)?;
+    }
+    if let Some(peer) = paths.sites.peer {
+        kept.push(peer)?;
+    }
+    if let Some(pcap) = views.pcap {
+        kept.push(pcap)?;
+    }
+    Ok(kept)
+}
+
 /// The texts of a run's files, of which those of the sites are read first, then the script; nothing where one can't be
 /// read, and then the path of the first such was printed, and on `errors` why.
 fn run_texts<R: Files + AllocGlobal, W: Write, E: Write>(
@@ -212,47 +257,77 @@ fn summed<W: Write, E: Write>(
 /// but nothing where nothing was run, as where the script or a site is refused, so that the files are as they were.
 pub(crate) fn run_viewed<R: Files + AllocGlobal, W: Write, E: Write>(
     rt: &R,
-    sites: &SiteTexts,
-    script: &str,
+    run: ViewedRun<'_>,
     views: &Views<'_>,
     out: &mut W,
     errors: &mut E,
 ) -> Result<Option<Status>, LabFault> {
     let alloc = rt.alloc();
-    let Some(sheets) = open_sheets(rt, views, out, errors)? else {
+    let ViewedRun {
+        title,
+        kept,
+        sites,
+        script,
+    } = run;
+    let Some(sheets) = open_sheets(rt, views, kept, out, errors)? else {
         return Ok(None);
     };
     let peer = sites.peer();
     let mut viewer = Viewer::new(alloc, views, peer.is_some(), out)?;
-    viewer.note_script(script)?;
+    viewer.note_script(title, script)?;
     let ended = run_for(alloc, alloc, sites.first(), peer, script, &mut viewer);
     let ended = summed(alloc, ended, &mut viewer, errors);
     let written = if viewer.has_begun() {
-        sheets.finish(&viewer, errors)
+        sheets.finish(rt, &viewer, errors)
     } else {
         Ok(())
     };
     Ok(Some(ended_viewed(ended, written)?))
 }
 
-/// Runs what was read, with all settled attempts taken out of what was asked, at the end.
-fn run_audited<R: Files + AllocGlobal, W: Write, E: Write>(
+/// Runs what was read, with the views that are asked for, under the names of its files.
+fn run_named<R: Files + AllocGlobal, W: Write, E: Write>(
     rt: &R,
+    paths: RunPaths<'_>,
     texts: &RunTexts,
     views: &Views<'_>,
     out: &mut W,
     errors: &mut E,
 ) -> Result<Option<Status>, LabFault> {
-    let Some(sheets) = open_sheets(rt, views, out, errors)? else {
+    let title = title_of(rt.alloc(), paths.script, &texts.sites)?;
+    let kept = kept_paths(rt.alloc(), paths, views)?;
+    let run = ViewedRun {
+        title: &title,
+        kept: &kept,
+        sites: &texts.sites,
+        script: &texts.script,
+    };
+    run_viewed(rt, run, views, out, errors)
+}
+
+/// Runs what was read, with all settled attempts taken out of what was asked, at the end.
+fn run_audited<R: Files + AllocGlobal, W: Write, E: Write>(
+    rt: &R,
+    paths: RunPaths<'_>,
+    texts: &RunTexts,
+    views: &Views<'_>,
+    out: &mut W,
+    errors: &mut E,
+) -> Result<Option<Status>, LabFault> {
+    let alloc = rt.alloc();
+    let title = title_of(alloc, paths.script, &texts.sites)?;
+    let kept = kept_paths(alloc, paths, views)?;
+    let Some(sheets) = open_sheets(rt, views, &kept, out, errors)? else {
         return Ok(None);
     };
     let asked = AskedRun {
         site: texts.sites.first(),
         peer: texts.sites.peer(),
         script: &texts.script,
+        title: &title,
         views,
     };
-    Ok(Some(audit_viewed(rt.alloc(), asked, sheets, out, errors)?))
+    Ok(Some(audit_viewed(rt, asked, sheets, out, errors)?))
 }
 
 /// Runs a script over sites, all given as texts, and prints the trace.
@@ -290,16 +365,17 @@ fn run_over<R: Files + AllocGlobal, W: Write, E: Write>(
     out: &mut W,
     errors: &mut E,
 ) -> Result<Status, LabFault> {
-    if let Some(path) = named_twice(rt, sites, script, views) {
-        return refuse_twice(path, out, errors);
+    if let Some(path) = named_twice(rt, sites, script, views)? {
+        return refuse_twice(&path, out, errors);
     }
     let Some(texts) = run_texts(rt, sites, script, out, errors)? else {
         return Ok(Status::Refused);
     };
+    let paths = RunPaths { sites, script };
     let ended = match ending {
-        Ending::Audit => run_audited(rt, &texts, views, out, errors)?,
+        Ending::Audit => run_audited(rt, paths, &texts, views, out, errors)?,
         Ending::Plain if views.is_plain() => Some(run_plain(rt.alloc(), &texts, out)?),
-        Ending::Plain => run_viewed(rt, &texts.sites, &texts.script, views, out, errors)?,
+        Ending::Plain => run_named(rt, paths, &texts, views, out, errors)?,
     };
     match ended {
         Some(status) => say_ended(rt.alloc(), sites, script, &texts, status, errors),
@@ -312,7 +388,9 @@ fn run_over<R: Files + AllocGlobal, W: Write, E: Write>(
 ///
 /// Where views are asked for, their files are opened or made before the run begins, and emptied and written once it ended,
 /// but not where a site or the script is refused; one that can't be opened is refused as one that can't be read, and so
-/// is, before anything is read, one that is another file of the run. One file that is made for both is refused then.
+/// is, before anything is read, one that is another file of the run. One file that is made for both is refused then. Of a chart's
+/// pages the first is treated so; the others are made once the run ended, and none of them is written where it is another file of
+/// the run.
 ///
 /// Where a summary is asked for, what the run came to stands behind the trace's end, in words or as one JSON object.
 ///

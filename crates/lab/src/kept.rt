@@ -1,7 +1,7 @@
 //! What is kept of scripts that aren't met: their traces, charts and captures.
 //!
 //! No clause says what the files hold: that is shown by tests.
-use crate::files::run_viewed;
+use crate::files::{ViewedRun, run_viewed, title_of};
 use crate::site_files::SiteTexts;
 use run_listeners::LabFault;
 use screen_text::{Escaped, Reason};
@@ -9,7 +9,7 @@ use std::alloc::{AllocError, Global};
 use std::fs;
 use std::io::{self, Write};
 use std::rt::Files;
-use view_options::Views;
+use view_options::{ChartView, Views};
 
 /// Whether a character is left out where it begins the path of a script.
 fn is_of_folder(character: char) -> bool {
@@ -66,11 +66,23 @@ pub(crate) fn keep_run<R: Files + AllocGlobal, E: Write>(
     let pcap = format!(in alloc; "{folder}/{name}.pcap")?;
     let views = Views {
         pcap: Some(&pcap),
-        chart: Some(&chart),
+        chart: Some(ChartView {
+            path: &chart,
+            looks: false,
+            pages: false,
+        }),
         ..Views::plain()
     };
     let mut printed = Vec::new(alloc);
-    match run_viewed(rt, sites, script, &views, &mut printed, errors)? {
+    let title = title_of(alloc, path, sites)?;
+    let others = [path, pcap.as_str()];
+    let run = ViewedRun {
+        title: &title,
+        kept: &others,
+        sites,
+        script,
+    };
+    match run_viewed(rt, run, &views, &mut printed, errors)? {
         Some(_) => is_done(&trace, fs::write(rt, &trace, &printed), errors),
         None => Ok(false),
     }

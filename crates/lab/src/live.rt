@@ -116,7 +116,7 @@ fn live_viewed<R: Files + AllocGlobal, I: BufRead + LineReader, W: Write, E: Wri
         Played Global book (items_from true false octets)) }
 {
     let alloc = rt.alloc();
-    let Some(sheets) = open_sheets(rt, asked.views, out, errors)? else {
+    let Some(sheets) = open_sheets(rt, asked.views, &[], out, errors)? else {
         return Ok(Status::Refused);
     };
     let mut viewer = LiveViewer::new(alloc, asked.views, sheets, out, errors)?;
@@ -142,10 +142,10 @@ fn rules_behind(last: u64, entries: usize) -> Rules
 }
 
 /// The viewer, once what it tells begins with a book.
-fn begun_with<'a, 'p, W: Write, F: Write + OpenFile + Drop>(
-    mut viewer: LiveViewer<'a, 'p, W, F>,
+fn begun_with<'a, W: Write, F: Write + OpenFile + Drop>(
+    mut viewer: LiveViewer<'a, W, F>,
     book: &Book<Global>,
-) -> Result<LiveViewer<'a, 'p, W, F>, AllocError> {
+) -> Result<LiveViewer<'a, W, F>, AllocError> {
     let begun = viewer.begin_with(book);
     begun.map(|()| viewer)
 }
@@ -165,7 +165,7 @@ fn live_journaled<R: Files + AllocGlobal, I: BufRead + LineReader, W: Write, E: 
         Played Global opened.entry.book (items_from false false octets)) }
 {
     let alloc = rt.alloc();
-    let Some(sheets) = open_sheets(rt, asked.views, out, errors)? else {
+    let Some(sheets) = open_sheets(rt, asked.views, &[], out, errors)? else {
         return Ok(Status::Refused);
     };
     let Opened { journal, book } = opened;

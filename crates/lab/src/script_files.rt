@@ -12,11 +12,12 @@ use crate::script_sites::{
 use crate::site_files::{
     GivenPaths, SitePaths, SiteSources, SiteTexts, in_files, say_reasons, site_texts,
 };
-use crate::view_paths::{is_same, refuse_twice};
+use crate::view_paths::refuse_twice;
 use expectations::Recording;
 use lab_runs::run::{Status, refuse_site};
 use lab_words::TestFiles;
 use run_listeners::{LabFault, Printing};
+use run_views::is_same;
 use screen_text::Escaped;
 use std::alloc::Global;
 use std::io::{self, Write};

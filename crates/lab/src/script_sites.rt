@@ -1,12 +1,12 @@
 //! The sites that a script names for itself.
 use crate::files::text_of;
 use crate::site_files::{GivenPaths, SiteSource, SiteSources, SiteTexts, say_reasons, site_texts};
-use crate::view_paths::is_same;
 use cell_table::SiteFault;
 use expectations::{cells_in, peer_in, site_in};
 use lab_runs::run::read_sites;
 use lab_script::script::without_return;
 use run_listeners::LabFault;
+use run_views::is_same;
 use screen_text::Escaped;
 use site_text::UniformSite;
 use std::alloc::{AllocError, Global};

@@ -5,6 +5,7 @@ pub use lab_words::{GivenPaths, SitePaths};
 use run_listeners::LabFault;
 use site_text::{UniformSite, say_reason};
 use std::alloc::Global;
+use std::fmt;
 use std::io::Write;
 use std::rt::Files;
 
@@ -27,6 +28,16 @@ impl<'a> SiteSource<'a> {
     }
 }
 
+impl fmt::Display for SiteSource<'_> {
+    /// The path of its file, or the cells as a script says them.
+    fn fmt<W: fmt::Write>(&self, f: &mut fmt::Formatter<W>) -> fmt::Result {
+        match self {
+            SiteSource::File(path) => f.write_str(path),
+            SiteSource::Cells(site) => write!(f, "cells {} {}", site.cells(), site.timeslots()),
+        }
+    }
+}
+
 /// Where the texts of the sites of a run come from; that of a peer always from a file.
 #[derive(Clone, Copy)]
 pub(crate) struct SiteSources<'a> {
@@ -42,11 +53,12 @@ pub(crate) fn in_files(paths: SitePaths<'_>) -> SiteSources<'_> {
     }
 }
 
-/// The texts of the sites of a run.
+/// The texts of the sites of a run, and where they come from, in words.
 #[derive(Drop)]
 pub(crate) struct SiteTexts {
     first: String,
     peer: Option<String>,
+    names: String,
 }
 
 impl SiteTexts {
@@ -58,6 +70,11 @@ impl SiteTexts {
     /// The text of the peer's site.
     pub(crate) fn peer(&self) -> Option<&str> {
         self.peer.as_ref().map(|text| text.as_str())
+    }
+
+    /// Where they come from.
+    pub(crate) fn names(&self) -> &str {
+        &self.names
     }
 }
 
@@ -85,8 +102,14 @@ pub(crate) fn site_texts<R: Files + AllocGlobal, W: Write, E: Write>(
     let Some(first) = source_text(rt, sources.first, out, errors)? else {
         return Ok(None);
     };
+    let alloc = rt.alloc();
     let Some(path) = sources.peer else {
-        return Ok(Some(SiteTexts { first, peer: None }));
+        let names = sources.first.to_string(alloc)?;
+        return Ok(Some(SiteTexts {
+            first,
+            peer: None,
+            names,
+        }));
     };
     let Some(peer) = text_of(rt, path, out, errors)? else {
         return Ok(None);
@@ -94,6 +117,7 @@ pub(crate) fn site_texts<R: Files + AllocGlobal, W: Write, E: Write>(
     Ok(Some(SiteTexts {
         first,
         peer: Some(peer),
+        names: format!(in alloc; "{} and {path}", sources.first)?,
     }))
 }
 

@@ -3,7 +3,7 @@ use crate::rows::{ArgumentRow, Form, Rule, TEXT, with_arguments};
 use clap::builder::ValueParser;
 use clap::{ArgMatches, Command};
 use std::alloc::{AllocError, Global};
-use view_options::{SummaryForm, Views};
+use view_options::{ChartView, SummaryForm, Views};
 
 /// How a run ends.
 #[derive(Clone, Copy, Debug, PartialEq, Eq)]
@@ -51,13 +51,25 @@ const LIVE_OPTIONS: &[ArgumentRow] = &[
     },
 ];
 
-/// `--chart FILE`, `--summary`, `--json`, `--lines`, `--call N` and `--audit`
+/// `--chart FILE`, `--chart-all`, `--chart-pages`, `--summary`, `--json`, `--lines`, `--call N` and `--audit`
 const RUN_OPTIONS: &[ArgumentRow] = &[
     ArgumentRow {
         name: "CHART",
         form: Form::Valued("chart", "FILE", TEXT),
         help: "Writes the run to this file, as a sequence chart in SVG",
         rules: &[],
+    },
+    ArgumentRow {
+        name: "chart-all",
+        form: Form::Flag("chart-all"),
+        help: "Shows on the chart also what is looked up in the book, look and owner",
+        rules: &[Rule::Wants("CHART")],
+    },
+    ArgumentRow {
+        name: "chart-pages",
+        form: Form::Flag("chart-pages"),
+        help: "Writes the chart as pages of 60 rows, to files as FILE-1.svg and so on",
+        rules: &[Rule::Wants("CHART")],
     },
     ArgumentRow {
         name: "summary",
@@ -125,6 +137,16 @@ fn summary_of(matches: &ArgMatches<'_>) -> Option<SummaryForm> {
     }
 }
 
+/// The chart, where the words of a command with `--chart` ask for one.
+fn chart_of<'a>(matches: &ArgMatches<'a>) -> Option<ChartView<'a>> {
+    let path = matches.get_str("CHART")?;
+    Some(ChartView {
+        path,
+        looks: matches.get_flag("chart-all"),
+        pages: matches.get_flag("chart-pages"),
+    })
+}
+
 /// The views that the words of a command with these options ask for.
 pub(crate) fn live_views_of<'a>(matches: &ArgMatches<'a>) -> Views<'a> {
     Views {
@@ -142,7 +164,7 @@ pub(crate) fn live_views_of<'a>(matches: &ArgMatches<'a>) -> Views<'a> {
 /// The views that the words of a command with these options ask for.
 pub(crate) fn views_of<'a>(matches: &ArgMatches<'a>) -> Views<'a> {
     Views {
-        chart: matches.get_str("CHART"),
+        chart: chart_of(matches),
         summary: summary_of(matches),
         lines: matches.get_flag("lines"),
         call: matches.get_one::<u16>("CALL"),

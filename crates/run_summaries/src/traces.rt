@@ -10,7 +10,8 @@ use event_text::reading::read_event;
 use exchange::{Inbound, Outbound};
 use lab_script::script::{Given, ScriptFault, read_script, without_return};
 use line_words::content_of;
-use run_counts::Told;
+use radio_book::event::AttemptKind;
+use run_counts::{Told, Way};
 use std::alloc::{AllocError, Allocator, Global};
 use trace_text::trace::{Mark, TraceLine};
 
@@ -109,20 +110,38 @@ fn home_in(reply: &str) -> Option<u8> {
     }
 }
 
+/// The kind of an attempt, by its word.
+fn kind_in(text: &str) -> Option<AttemptKind> {
+    match text {
+        "internal" => Some(AttemptKind::Internal),
+        "incoming" => Some(AttemptKind::Incoming),
+        "outgoing" => Some(AttemptKind::Outgoing),
+        _ => None,
+    }
+}
+
+/// Which way the attempt of a record's text leads, where it has one.
+fn way_in(reply: &str) -> Option<Way> {
+    let kind = kind_in(reply.split(' ').nth(3)?)?;
+    let target = cell_in(reply.split(' ').nth(5)?);
+    Some(Way { kind, target })
+}
+
 /// What an event's line tells, `event ` left out; nothing where it can't be read.
 fn told_by_event(text: &str) -> Option<Told> {
     let (event, reply) = text.split_once(" -> ")?;
     let event = read_event(event)?;
-    let (is_accepted, home) = match reply.split(' ').next()? {
-        "done" | "owned" => (true, None),
-        "record" => (true, home_in(reply)),
-        "refused" => (false, None),
+    let (is_accepted, home, way) = match reply.split(' ').next()? {
+        "done" | "owned" => (true, None, None),
+        "record" => (true, home_in(reply), way_in(reply)),
+        "refused" => (false, None, None),
         _ => return None,
     };
     Some(Told::Asked {
         event,
         is_accepted,
         home,
+        way,
     })
 }
 

@@ -76,7 +76,9 @@ impl<'a, W: Write, A: Allocator + Copy> Viewer<'a, W, A> {
                 None
             },
             capture,
-            chart: views.chart.map(|_| RunChart::new(alloc, has_peer)),
+            chart: views
+                .chart
+                .map(|chart| RunChart::new(alloc, has_peer, chart.looks)),
             summary: views.summary.map(|_| RunSummary::new(alloc, has_peer)),
             form: views.summary,
             lines: views.lines,
@@ -95,7 +97,7 @@ impl<'a, W: Write, A: Allocator + Copy> Viewer<'a, W, A> {
     }
 
     /// The chart so far, where one is asked for.
-    pub fn chart(&self) -> Option<&RunChart<A>> {
+    pub(crate) fn chart(&self) -> Option<&RunChart<A>> {
         self.chart.as_ref()
     }
 
@@ -109,8 +111,12 @@ impl<'a, W: Write, A: Allocator + Copy> Viewer<'a, W, A> {
         if self.has_seen { None } else { self.only }
     }
 
-    /// The run is to be one of this script: which of its lines give something is noted, where that is to be shown.
-    pub fn note_script(&mut self, script: &str) -> Result<(), AllocError> {
+    /// The run is to be one of this script: which of its lines give something is noted, where that is to be shown, and the chart
+    /// gets this title.
+    pub fn note_script(&mut self, title: &str, script: &str) -> Result<(), AllocError> {
+        if let Some(chart) = &mut self.chart {
+            chart.name(title, self.only)?;
+        }
         if self.lines {
             self.origins = Some(Origins::new(self.alloc, script)?);
         }

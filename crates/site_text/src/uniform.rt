@@ -20,6 +20,16 @@ pub enum Timeslots {
     Half,
 }
 
+impl fmt::Display for Timeslots {
+    /// The word that a script has for it.
+    fn fmt<W: fmt::Write>(&self, f: &mut fmt::Formatter<W>) -> fmt::Result {
+        f.write_str(match self {
+            Timeslots::Full => "full",
+            Timeslots::Half => "half",
+        })
+    }
+}
+
 /// A site of cells alike, each a neighbour of all others: 1 to 64 cells of one carrier each.
 #[derive(Clone, Copy, Debug, PartialEq, Eq)]
 pub struct UniformSite {
@@ -70,6 +80,16 @@ impl UniformSite {
     pub fn of_words(words: &str) -> Option<UniformSite> {
         let (cells, timeslots) = words.split_once(' ')?;
         UniformSite::new(number_of(cells)?, timeslots_of(timeslots)?)
+    }
+
+    /// How many cells it has.
+    pub fn cells(self) -> u8 {
+        self.cells
+    }
+
+    /// At which rates its timeslots carry calls.
+    pub fn timeslots(self) -> Timeslots {
+        self.timeslots
     }
 }
 
