@@ -169,7 +169,7 @@ const COURSE: &[Row] = &[
     ),
 ];
 
-/// All courses.
+/// All courses in which no station restarts.
 const COURSES: &[Course] = &[
     // each message takes some, and so do what is known of three channels, the holds, and the world itself
     Course {
@@ -183,9 +183,10 @@ const COURSES: &[Course] = &[
     courses::OF_TWO,
     halves::ACTIVATED,
     halves::MOVED,
-    restarts::FORGOTTEN,
-    restarts::OF_ONE,
 ];
+
+/// All courses in which a station restarts.
+const RESTARTS: &[Course] = &[restarts::FORGOTTEN, restarts::OF_ONE];
 
 /// Asks one row: the answer is an allocation failure exactly where memory was refused. Asked again, the world, which is as
 /// it was, gives what the row says.
@@ -263,6 +264,15 @@ fn requests_of_a_site(rt: &impl AllocGlobal) -> Result<u64, Fail> {
 fn each_row_comes_also_behind_a_refusal_of_memory(rt: HostRuntime) -> Result<(), Fail> {
     let made = requests_of_a_site(&rt)?;
     for course in COURSES {
+        meets_each_refusal(&rt, course, made)?;
+    }
+    Ok(())
+}
+
+#[test]
+fn each_restart_comes_also_behind_a_refusal_of_memory(rt: HostRuntime) -> Result<(), Fail> {
+    let made = requests_of_a_site(&rt)?;
+    for course in RESTARTS {
         meets_each_refusal(&rt, course, made)?;
     }
     Ok(())
