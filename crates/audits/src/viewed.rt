@@ -1,4 +1,4 @@
-//! A run with views, and all settled attempts taken out at its end.
+//! A run with views and with an audit at its end.
 use crate::lines::CountedLines;
 use crate::noting::Noting;
 use crate::runs::{AllBeside, Audits, audited_run, print_audits};
@@ -12,7 +12,7 @@ use std::io::Write;
 use std::rt::Files;
 use view_options::Views;
 
-/// A script over a site, or over two where a peer's is given, all as texts, and what is to be seen of its run.
+/// A script, its site, and its peer's site if one is given, all as texts, and the views of its run.
 #[derive(Clone, Copy, Debug, PartialEq, Eq)]
 pub struct AskedRun<'a> {
     pub site: &'a str,
@@ -102,10 +102,10 @@ fn run_viewed<R: Files + AllocGlobal, F: Write + OpenFile + Drop, W: Write, E: W
     run_counted(rt, asked, sheets, &printed, &mut counted, errors)
 }
 
-/// Runs a script with views, as [`run_for`](lab_runs::run::run_for) does, tells what comes of it, and prints behind the
-/// trace's end, and behind its summary where that is asked for, what the audits of its controllers come to
-/// ([`print_audits`]). The files of the views are written once the run ended, but not where nothing is run. The answer is
-/// `Refused` then, else `Done` or `Differs` by the audits.
+/// Runs a script with views, as [`run_for`](lab_runs::run::run_for) does, and prints its trace. After the trace's end, and
+/// after the summary if one is asked for, it prints the audits of its controllers ([`print_audits`]). The files of the views
+/// are written when the run has ended, unless nothing was run. The answer is `Refused` if nothing was run, else `Done` or
+/// `Differs` by the audits.
 pub fn audit_viewed<R: Files + AllocGlobal, F: Write + OpenFile + Drop, W: Write, E: Write>(
     rt: &R,
     asked: AskedRun<'_>,

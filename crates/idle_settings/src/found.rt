@@ -1,4 +1,4 @@
-//! The lines of a script that come to nothing.
+//! The lines of a script that have no effect.
 use crate::inputs::lack_of_restart;
 use crate::lack::Lack;
 use crate::lines::{Kind, Line, chan_of, lines_of, without_line};
@@ -14,14 +14,14 @@ use std::alloc::{AllocError, Allocator, Global};
 /// So many lines are played at most to find out what settings come to.
 const MOST_PLAYED: usize = 100_000;
 
-/// Why a line of a script comes to nothing.
+/// Why a line of a script has no effect.
 #[derive(Clone, Copy, Debug, PartialEq, Eq)]
 pub enum Cause {
     /// It asks something of a station, and there isn't this.
     Lacks(Lack),
     /// Without it the same comes. It is about this channel.
     Unused(ChanId),
-    /// Without it the same comes, as another line behind it takes its place. It is about this channel.
+    /// Without it the same comes, because a later line replaces it. It is about this channel.
     Again(ChanId),
     /// It asks the book of its controller in vain.
     Unmet(Unmet),
@@ -29,7 +29,7 @@ pub enum Cause {
     Input(Lack),
 }
 
-/// A line of a script that comes to nothing.
+/// A line of a script that has no effect.
 #[derive(Clone, Copy, Debug, PartialEq, Eq)]
 pub struct Idle {
     /// Its number, counted from 1.
@@ -48,14 +48,14 @@ fn noted_first(
     }
 }
 
-/// What was found of the lines of a script that come to nothing.
+/// The lines of a script that have no effect, as far as they were looked for.
 #[derive(Drop)]
 pub struct Found<A: Allocator = Global> {
-    /// They, in their order.
+    /// These lines, in order.
     pub idle: Vec<Idle, A>,
     /// The calls that it opened under a number for which the switching centre asks.
     pub taken: Vec<Taken, A>,
-    /// Whether it was found out of each setting of the script.
+    /// Whether each setting of the script was looked at.
     pub is_whole: bool,
 }
 
@@ -121,7 +121,7 @@ enum Order {
     Backward,
 }
 
-/// How a setting is looked at; nothing where it sets back what another asked: there may be nothing to set back.
+/// How a setting is looked at; nothing if it sets back what another asked: there may be nothing to set back.
 fn order_of(act: Act) -> Option<Order> {
     match act {
         Act::Refuse | Act::Mobile(Habit::Return | Habit::Vanish) | Act::Double | Act::Cut(_) => {
@@ -143,7 +143,7 @@ struct Search<'a, A: Allocator + Copy> {
 }
 
 impl<A: Allocator + Copy> Search<'_, A> {
-    /// The script without the settings that take the place of another, of these behind it; nothing where none does.
+    /// The script without the settings that take the place of another, of these behind it; nothing if none does.
     fn without_others(
         &self,
         placed: Placed,

@@ -57,7 +57,7 @@ fn gives(line: &str) -> bool {
     !is_comment(line) && !is_blank(line)
 }
 
-/// What a script gives; nothing where a line can't be read.
+/// What a script gives; nothing if a line can't be read.
 fn items_of<A: Allocator + Copy>(
     alloc: A,
     script: &str,

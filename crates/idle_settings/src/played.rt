@@ -1,4 +1,4 @@
-//! A script that is played, and what comes of each of its lines.
+//! Plays a script, and gathers what comes of each of its lines.
 use crate::inputs::{lack_of, opened_in, taken_in};
 use crate::lack::Lack;
 use crate::lines::{Line, lines_of};
@@ -12,7 +12,7 @@ use std::alloc::{AllocError, Allocator, Global};
 use std::io::{self, ErrorKind, Write};
 use trace_text::trace::Mark;
 
-/// The texts of a controller's site, of its peer's where there is one, and what serves while they are read.
+/// The texts of a controller's site and of its peer's, if there is one, and memory for reading them.
 #[derive(Clone, Copy)]
 pub struct Texts<'a> {
     pub scratch: Global,
@@ -21,7 +21,7 @@ pub struct Texts<'a> {
 }
 
 impl Texts<'_> {
-    /// The sites; nothing where a text describes none.
+    /// The sites; nothing if a text describes none.
     pub(crate) fn sites<A: Allocator + Copy>(self, alloc: A) -> Result<Option<Sites<A>>, LabFault> {
         match read_sites(alloc, self.scratch, self.first, self.peer) {
             Ok(sites) => Ok(Some(sites)),
@@ -224,7 +224,7 @@ fn play_to<A: Allocator + Copy, W: Write>(
     Ok(play(alloc, sites, script, &mut hearing)?.is_some())
 }
 
-/// What comes of the lines of a script, which are these; what they ask is noted. Nothing where it isn't run.
+/// What comes of the lines of a script, which are these; what they ask is noted. Nothing if it isn't run.
 pub(crate) fn trace_of<A: Allocator + Copy>(
     alloc: A,
     sites: Texts<'_>,

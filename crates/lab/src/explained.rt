@@ -1,4 +1,4 @@
-//! What a number stands for, in words.
+//! Words for the numbers of refusals, causes and faults.
 ghost use Rattle.std.specs.Prelude.{◌≡◌, ◌↔◌, true, IfOk};
 ghost use Rattle.explanations.specs.Questions.{IsKnown};
 
@@ -48,8 +48,8 @@ fn say_unknown<E: Write>(question: Question, errors: &mut E) -> io::Result<()> {
     }
 }
 
-/// Prints the answer to a question in one line to `out`, and answers true. Where there is no refusal or no fault of the
-/// number, or the fault can't have the argument, `errors` says so, nothing is printed, and the answer is false.
+/// Prints the answer to a question in one line to `out`, and answers true. If there is no refusal or no fault of this
+/// number, or the fault can't have this argument, it prints nothing, says so on `errors`, and answers false.
 pub fn explain<W: Write, E: Write>(
     question: Question,
     out: &mut W,

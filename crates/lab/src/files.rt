@@ -37,7 +37,7 @@ where
     Ok(octets)
 }
 
-/// Octets as many as a file may have; nothing where there are more.
+/// Octets as many as a file may have; nothing if there are more.
 fn within_longest<A: Allocator>(octets: Vec<u8, A>) -> Option<Vec<u8, A>>
     ensures whole { vec_len octets ≤ longest_file →
         option_map (λ found. found.items) result ≡ Some octets.items }
@@ -50,8 +50,8 @@ fn within_longest<A: Allocator>(octets: Vec<u8, A>) -> Option<Vec<u8, A>>
     }
 }
 
-/// All octets that a reader gives; nothing where there are more than a file may have. A device without an end is read up
-/// to one octet more.
+/// All octets that a reader gives; nothing if there are more than a file may have. A device without an end is read up to one
+/// octet more.
 fn whole_octets<A: Allocator, R: Read>(alloc: A, reader: R) -> io::Result<Option<Vec<u8, A>>>
 where
     R: Drop,
@@ -64,7 +64,7 @@ where
     Ok(within_longest(octets))
 }
 
-/// All octets of a file; nothing where it has more than it may have.
+/// All octets of a file; nothing if it has more than it may have.
 fn file_octets<R: Files + AllocGlobal>(rt: &R, path: &str) -> io::Result<Option<Vec<u8>>> {
     whole_octets(rt.alloc(), File::open(rt, path)?)
 }
@@ -121,7 +121,7 @@ fn say_not_text<E: Write>(path: &str, place: usize, errors: &mut E) -> io::Resul
     )
 }
 
-/// The text of a file; nothing where it can't be read, and then its path was printed, and on `errors` why.
+/// The text of a file; nothing if it can't be read, and then its path was printed, and on `errors` why.
 pub(crate) fn text_of<R: Files + AllocGlobal, W: Write, E: Write>(
     rt: &R,
     path: &str,
@@ -195,8 +195,8 @@ fn kept_paths<'a>(
     Ok(kept)
 }
 
-/// The texts of a run's files, of which those of the sites are read first, then the script; nothing where one can't be
-/// read, and then the path of the first such was printed, and on `errors` why.
+/// The texts of a run's files, of which those of the sites are read first, then the script; nothing if one can't be read,
+/// and then the path of the first such was printed, and on `errors` why.
 fn run_texts<R: Files + AllocGlobal, W: Write, E: Write>(
     rt: &R,
     sites: SiteSources<'_>,
@@ -252,7 +252,7 @@ fn summed<W: Write, E: Write>(
     Ok(status)
 }
 
-/// Runs a script over sites, all given as texts, with the views that are asked for; nothing where one of their files can't be
+/// Runs a script over sites, all given as texts, with the views that are asked for; nothing if one of their files can't be
 /// opened, and then its path was printed, and on `errors` why. What came of the run until it ended, be it early, is written;
 /// but nothing where nothing was run, as where the script or a site is refused, so that the files are as they were.
 pub(crate) fn run_viewed<R: Files + AllocGlobal, W: Write, E: Write>(
@@ -383,8 +383,8 @@ fn run_over<R: Files + AllocGlobal, W: Write, E: Write>(
     }
 }
 
-/// Runs the script of one file over the site of another, or over two where a peer's is named, and prints the trace to
-/// `out`, as [`lab_run`] does of texts. Where no site is given the script has to name its own; it is read for that first.
+/// Runs the script of one file over the site of another, or over two sites if a peer is named, and prints the trace to
+/// `out`, as [`lab_run`] does with texts. If no site is given, the script has to name its own; it is read for that first.
 ///
 /// Where views are asked for, their files are opened or made before the run begins, and emptied and written once it ended,
 /// but not where a site or the script is refused; one that can't be opened is refused as one that can't be read, and so
@@ -392,16 +392,17 @@ fn run_over<R: Files + AllocGlobal, W: Write, E: Write>(
 /// pages the first is treated so; the others are made once the run ended, and none of them is written where it is another file of
 /// the run.
 ///
-/// Where a summary is asked for, what the run came to stands behind the trace's end, in words or as one JSON object.
+/// If a summary is asked for, the counts follow the trace's end, in words or as one JSON object.
 ///
-/// Where an audit is asked for, all settled attempts are taken out of what each controller was asked, at the end, and what
-/// that comes to is printed behind that ([`audit_viewed`]): the answer is `Differs` where something differs then.
+/// If an audit is asked for, all settled attempts are taken out of each controller's history at the end, and the result is
+/// printed after that ([`audit_viewed`]). If something differs then, the answer is `Differs`.
 ///
-/// The site's file is read first, then the peer's, then the script's. Where a file isn't there, can't be read, isn't UTF-8
-/// or has more than [`LONGEST_FILE`] octets, `file` and its path are printed and nothing else, and the answer is `Refused`;
-/// one line on `errors` says why. One says of a script whose last line has no line feed that it may be cut, and one of each
-/// site that it names and isn't run over. Where a site is refused, one line on `errors` says where in its file, and what is
-/// allowed there; where a line of the script is, one says which of its words is wrong, and what may stand there.
+/// The site's file is read first, then the peer's, then the script's. If a file isn't there, can't be read, isn't UTF-8 or
+/// has more than [`LONGEST_FILE`] octets, only `file` and its path are printed, and the answer is `Refused`; one line on
+/// `errors` says why. If the script's last line has no line feed, one line says that it may be cut off. One line names each
+/// site that the script names but isn't run over. If a site is refused, one line on `errors` says where in its file, and
+/// what is allowed there. If a line of the script is refused, one line says which word is wrong, and what is allowed in its
+/// place.
 pub fn run_files<R: Files + AllocGlobal, W: Write, E: Write>(
     rt: &R,
     sites: GivenPaths<'_>,

@@ -1,6 +1,6 @@
-//! What of a script makes that it isn't met, whatever comes of it; and the test of a script that may have such flaws.
+//! Flaws of a script, with which it isn't met whatever comes of it, and the test of a script that may have some.
 //!
-//! No clause says what is printed: that is shown by tests.
+//! No clause says what is printed: tests show it.
 use crate::absences::has_absences_alone;
 use crate::script_files::worse;
 use crate::script_notes::{say_idle_settings, say_never};

@@ -1,4 +1,4 @@
-//! The journal of a live controller: what is asked of it, and how it ended.
+//! The journal of a live controller: what the command line asks of it, and how a run with it ended.
 ghost use Rattle.std.specs.Prelude.{IsOk, IfOk};
 
 use journal_files::{Lost, WhenLost};

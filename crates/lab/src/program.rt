@@ -1,4 +1,4 @@
-//! What the program does with the words of its command line.
+//! The program: it does what the words of its command line ask for.
 use crate::check::check_file;
 use crate::decoded::{Decoded, LinkName, decode_text, ended};
 use crate::encoded::encode_run;
@@ -69,7 +69,7 @@ fn decode<W: Write, E: Write>(
 /// version `Done`. It waits for no thread: a storm, which does, is refused here, and is run by
 /// [`storm_file`](crate::storm::storm_file) for who looks for it first ([`storm_asked`](crate::storm::storm_asked)).
 ///
-/// No clause says what is printed, nor which words end how: that is shown by tests.
+/// No clause says what is printed, nor how which words end: tests show it.
 pub fn perform<R: Files + AllocGlobal, I: Read + Drop, W: Write, E: Write>(
     rt: &R,
     words: &[&str],

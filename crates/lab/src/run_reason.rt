@@ -1,7 +1,7 @@
 //! Why a run was refused: one line for a person.
 //!
-//! No clause says what the line holds. Which line of a script is refused is `read_script`'s to say, and why by which word
-//! `script_reasons` says.
+//! No clause says what the line holds. `read_script` says which line of a script is refused, and `script_reasons` which word
+//! is the reason.
 use crate::script_notes::say_bare_returns;
 use crate::site_files::{SiteSources, SiteTexts, say_reasons};
 use expectations::has_name;

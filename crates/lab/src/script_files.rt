@@ -136,7 +136,7 @@ fn test_file<R: Files + AllocGlobal, W: Write, E: Write>(
     }
 }
 
-/// The texts of sites that can be run over; nothing where a file or a site is refused, and then `out` and `errors` say so.
+/// The texts of sites that can be run over; nothing if a file or a site is refused, and then `out` and `errors` say so.
 fn readable_texts<R: Files + AllocGlobal, W: Write, E: Write>(
     rt: &R,
     sources: SiteSources<'_>,
@@ -154,7 +154,7 @@ fn readable_texts<R: Files + AllocGlobal, W: Write, E: Write>(
     Ok(Some(texts))
 }
 
-/// The sites that are given for scripts; nothing where a file or a site is refused, and then `out` and `errors` say so.
+/// The sites that are given for scripts; nothing if a file or a site is refused, and then `out` and `errors` say so.
 fn readable_sites<'a, R: Files + AllocGlobal, W: Write, E: Write>(
     rt: &R,
     paths: GivenPaths<'a>,
@@ -183,7 +183,7 @@ fn text_printed(alloc: Global, printed: Vec<u8>) -> String {
     }
 }
 
-/// Tests the script of a file, and notes how that ended in a report, where there is one.
+/// Tests the script of a file, and notes how that ended in a report, if there is one.
 fn test_noted<R: Files + AllocGlobal, W: Write, E: Write>(
     rt: &R,
     asked: &AskedTests<'_>,
@@ -255,10 +255,10 @@ fn is_read<R: Files>(rt: &R, paths: GivenPaths<'_>, scripts: &[&str], report: &s
     is_site || is_peer || scripts.iter().any(|script| is_same(rt, *script, report))
 }
 
-/// Tests the scripts of some files, each over the sites that it names, or else over those that are given, as [`test_run`] does of
-/// texts, and prints TAP: how many there are, and then each. A script that can't be read is refused, and those behind it
-/// are tested all the same: the answer is `Refused` where one was refused, else `Differs` where one differs. The files of
-/// sites, and sites, are refused as by [`run_files`](crate::files::run_files), and then no script is read.
+/// Tests the scripts of some files, each over the sites that it names, or else over those that are given, as [`test_run`]
+/// does with texts. Prints TAP: the number of tests, and then each test. If a script can't be read, it is refused, and the
+/// scripts after it are tested all the same. The answer is `Refused` if a script was refused, else `Differs` if one differs,
+/// else `Done`. Files of sites, and sites, are refused as by [`run_files`](crate::files::run_files); then no script is read.
 ///
 /// Where a report is asked for it is written at the end, in the form of JUnit; where it can't be the answer is `Refused`, and
 /// `errors` says why. Its file is refused before anything is read where it is one of those that are. Where scripts that aren't
@@ -352,9 +352,9 @@ fn say_no_attempts<E: Write>(tally: &Tally, errors: &mut E) -> io::Result<()> {
     Ok(())
 }
 
-/// Takes each attempt of the scripts of some files back at each point, over sites as [`test_files`] does, as [`try_undos`] does of
-/// texts, and prints TAP: each test, then how many there were and what came of them; where
-/// there was none, `errors` says so. Scripts and sites are refused as by [`test_files`].
+/// Undoes each attempt of the scripts of some files at each point, over sites as [`test_files`] does, and as [`try_undos`]
+/// does with texts. Prints TAP: each test, then the number of tests and their results. If there was no test, `errors` says
+/// so. Scripts and sites are refused as by [`test_files`].
 pub fn try_undos_files<R: Files + AllocGlobal, W: Write, E: Write>(
     rt: &R,
     paths: GivenPaths<'_>,

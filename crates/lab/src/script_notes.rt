@@ -1,7 +1,7 @@
-//! What is said of a script beside what comes of it: comments that look like slipped ones, or that nothing can miss, carriage
-//! returns, and settings that come to nothing.
+//! Notes about a script for standard error: comments that look like expectations, expectations that can't be met or are
+//! always met, carriage returns, and settings without effect.
 //!
-//! No clause says what the lines hold: that is shown by tests.
+//! No clause says what the lines hold: tests show it.
 use crate::absences::{expects_a_line, is_meant};
 use crate::site_files::SiteTexts;
 use expectations::{is_slipped, names_no_site};

@@ -56,7 +56,7 @@ impl NamesFault {
 #[derive(Drop)]
 pub(crate) struct GivenSites<'a> {
     pub paths: GivenPaths<'a>,
-    /// Their texts; `None` where each script has to name its own.
+    /// Their texts; `None` if each script has to name its own.
     pub texts: Option<SiteTexts>,
 }
 

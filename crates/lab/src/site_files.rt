@@ -91,8 +91,7 @@ fn source_text<R: Files + AllocGlobal, W: Write, E: Write>(
     }
 }
 
-/// The texts of sites; nothing where one can't be read, and then the path of the first such was printed, and on `errors`
-/// why.
+/// The texts of sites; nothing if one can't be read, and then the path of the first such was printed, and on `errors` why.
 pub(crate) fn site_texts<R: Files + AllocGlobal, W: Write, E: Write>(
     rt: &R,
     sources: SiteSources<'_>,

@@ -1,6 +1,6 @@
 //! Whether a text is a trace, and whether it has its end.
 //!
-//! No clause says what is printed: that is shown by tests.
+//! No clause says what is printed: tests show it.
 use lab_script::script::without_return;
 use lab_words::{TraceEnd, TracePath};
 use screen_text::Escaped;

@@ -1,4 +1,4 @@
-//! Attempts that are taken out of the traces in files.
+//! Undone attempts, taken out of traces in files.
 use crate::files::text_of;
 use crate::journal_text::trace_of;
 use crate::site_files::{SitePaths, SiteTexts, in_files, say_reasons, say_site, site_texts};
@@ -22,7 +22,7 @@ struct Texts {
     trace: String,
 }
 
-/// The texts of a site's file and of a trace's, of which the site's is read first; nothing where one can't be read or the trace
+/// The texts of a site's file and of a trace's, of which the site's is read first; nothing if one can't be read or the trace
 /// is refused ([`trace_of`]), and then the first such was printed, and on `errors` why.
 fn texts_of<R: Files + AllocGlobal, W: Write, E: Write>(
     rt: &R,
@@ -69,10 +69,10 @@ fn kept_whole(ended: Result<Status, LabFault>) -> Result<Status, LabFault> {
     ended.map_err(|_| LabFault::NoMemory)
 }
 
-/// Takes an undone attempt out of the trace of one file, over the site of another, and prints what stays, as
-/// [`rewind_run`] does of texts; nothing where memory is refused. Files and the site are refused as
-/// [`run_files`](crate::files::run_files) refuses them. So is a trace with a byte order mark in front (`line 1`), a text that
-/// is no trace (`no trace`), and a trace that lacks the end which it has to have (`no end`).
+/// Takes an undone attempt out of the trace of one file, over the site of another, and prints what stays, as [`rewind_run`]
+/// does with texts. If memory is refused, nothing is printed. Files and the site are refused as by
+/// [`run_files`](crate::files::run_files). So are a trace that begins with a byte order mark (`line 1`), a text that is no
+/// trace (`no trace`), and a trace that lacks its end but needs it (`no end`).
 pub fn rewind_files<R: Files + AllocGlobal, W: Write, E: Write>(
     rt: &R,
     site: &str,
@@ -104,8 +104,8 @@ struct SidesTexts {
     trace: String,
 }
 
-/// The texts of the sites' files and of a trace's, of which those of the sites are read first; nothing where one can't be read or
-/// the trace is refused ([`trace_of`]), and then the first such was printed, and on `errors` why.
+/// The texts of the sites' files and of a trace's, of which those of the sites are read first; nothing if one can't be read
+/// or the trace is refused ([`trace_of`]), and then the first such was printed, and on `errors` why.
 fn sides_texts<R: Files + AllocGlobal, W: Write, E: Write>(
     rt: &R,
     sites: SitePaths<'_>,
@@ -172,8 +172,9 @@ fn say_refused_sides<E: Write>(
     }
 }
 
-/// Takes each undone attempt out of the trace of one file by itself, over the sites of others, and prints a line for each, as
-/// [`list_run`] does of texts; nothing where memory is refused. Files and sites are refused as by [`rewind_files`].
+/// Takes each undone attempt out of the trace of one file, one at a time, over the sites of others, and prints a line for
+/// each, as [`list_run`] does with texts. If memory is refused, nothing is printed. Files and sites are refused as by
+/// [`rewind_files`].
 pub fn rewind_all_files<R: Files + AllocGlobal, W: Write, E: Write>(
     rt: &R,
     sites: SitePaths<'_>,
@@ -196,8 +197,9 @@ pub fn rewind_all_files<R: Files + AllocGlobal, W: Write, E: Write>(
     Ok(status)
 }
 
-/// Takes all settled attempts out of the trace of one file, over the site of another, and prints what that comes to, as
-/// [`audit_run`] does of texts; nothing where memory is refused. Files and the site are refused as by [`rewind_files`].
+/// Takes all settled attempts out of the trace of one file, over the site of another, and prints the result, as
+/// [`audit_run`] does with texts. If memory is refused, nothing is printed. Files and the site are refused as by
+/// [`rewind_files`].
 pub fn audit_files<R: Files + AllocGlobal, W: Write, E: Write>(
     rt: &R,
     site: &str,

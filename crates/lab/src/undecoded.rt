@@ -1,4 +1,4 @@
-//! Why octets, or a text that is to write some, are no message, in words.
+//! Why octets, or a hexadecimal text, are no message, in words.
 use crate::decoded::Decoded;
 use exchange::Bad;
 use explanations::{Question, answer_to};

@@ -1,4 +1,4 @@
-//! The files that a run writes to.
+//! The files to which a run writes.
 use crate::site_files::SiteSources;
 use lab_runs::run::Status;
 use run_listeners::LabFault;

@@ -150,7 +150,7 @@ pub(crate) fn hexadecimal_question(words: &[&str]) -> Option<Question> {
     Some(Question::Cause(LinkName::named(*link)?, cause))
 }
 
-/// What the words behind `explain` ask; `None` where they weren't matched by [`explain_command`].
+/// What the words behind `explain` ask; `None` if they weren't matched by [`explain_command`].
 pub(crate) fn question_of(explain: &ArgMatches<'_>) -> Option<Question> {
     match explain.subcommand()? {
         ("refused", refused) => Some(Question::Refusal(refused.get_one::<u8>("N")?)),

@@ -1,5 +1,5 @@
-//! What stands behind the help of each command: its script lines or its messages, its statuses, and an example. No line has
-//! over 100 columns.
+//! The end of each command's help: its script lines or its messages, its statuses, and an example. No line has over 100
+//! columns.
 use encoded_messages::{A_FORMS, ABIS_FORMS, FieldForm, MessageForm, RR_FORMS};
 use std::alloc::{AllocError, Global};
 use std::fmt;

@@ -1,4 +1,4 @@
-//! The words of a controller with a journal, and of its history.
+//! The options of a controller's journal and history.
 use crate::rows::{ArgumentRow, COUNTED, Form, NUMBER, Rule, TEXT, with_arguments};
 use clap::builder::ValueParser;
 use clap::{ArgMatches, Command};
@@ -11,16 +11,16 @@ const ENTRIES: usize = 100_000;
 /// What a controller does whose journal is lost.
 const WHEN_LOST: ValueParser<'static> = ValueParser::Names(&["end", "go-on"]);
 
-/// The journal that a controller has.
+/// The journal of a controller, as the options ask for it.
 #[derive(Clone, Copy, Debug, PartialEq, Eq)]
 pub struct JournalWords<'a> {
     /// The path of its folder.
     pub folder: &'a str,
-    /// How many of its files stay; all, where no number is asked for.
+    /// How many of its files are kept; all, if no number is given.
     pub keep: Option<usize>,
-    /// The last line that was heard whole: what was sent for later ones is told once more.
+    /// The last line of which everything was heard. What was sent for later lines is printed once more.
     pub heard: Option<u64>,
-    /// What the controller does, once the journal can't be written any more.
+    /// What the controller does once the journal can't be written any more.
     pub when_lost: WhenLost,
 }
 

@@ -1,4 +1,4 @@
-//! The words of the command line: what they ask for, or why they are refused.
+//! Reads the words of the command line: what they ask for, or why they are refused.
 #![tactic(auto)]
 
 mod cells_words;

@@ -1,6 +1,6 @@
-//! Words that are refused, in one line for a person: which of them is wrong, and what is allowed.
+//! One line for a person about words that are refused: which word is wrong, and what is allowed.
 //!
-//! No clause says what the line holds: that is shown by tests.
+//! No clause says what the line holds: tests show it.
 use crate::words::lab_command;
 use clap::error::ErrorKind;
 use clap::{Command, Error};
@@ -161,7 +161,7 @@ fn line_of(
     Ok(line)
 }
 
-/// What `clap` says of words that a command doesn't match; nothing where it does.
+/// What `clap` says of words that a command doesn't match; nothing if it does.
 fn fault_of<'a>(command: &mut Command<'a>, words: &'a [String]) -> Option<Error> {
     match command.try_get_matches_from_mut(words) {
         Ok(_matches) => None,

@@ -156,7 +156,7 @@ fn is_site(path: &str) -> bool {
     path.ends_with(".toml")
 }
 
-/// The script that the words of `run` or `record` name, and the sites that are given for it; `None` where they name a site
+/// The script that the words of `run` or `record` name, and the sites that are given for it; `None` if they name a site
 /// alone.
 pub(crate) fn named_script<'a>(matches: &ArgMatches<'a>) -> Option<(GivenPaths<'a>, &'a str)> {
     let first = matches.get_str("SITE")?;

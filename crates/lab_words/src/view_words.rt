@@ -10,7 +10,7 @@ use view_options::{ChartView, SummaryForm, Views};
 pub enum Ending {
     /// With the trace's end.
     Plain,
-    /// Behind that all settled attempts are taken out of what was asked, and what that comes to is printed.
+    /// With an audit after the trace's end: all settled attempts are taken out of the history, and the result is printed.
     Audit,
 }
 

@@ -1,4 +1,4 @@
-//! What is shown of the counts of one controller: in all, and for each cell.
+//! The lines that show the counts of one controller, in all and for each cell.
 use radio_book::event::AttemptKind;
 use run_counts::{Cause, Summary, What};
 use std::alloc::Allocator;

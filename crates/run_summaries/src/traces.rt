@@ -1,6 +1,6 @@
-//! The lines of a trace, as `run` prints it, read back as far as they are counted.
+//! Reads a trace's lines back, as `run` prints them, as far as they are counted.
 //!
-//! No clause says which lines can be read: that is shown by tests.
+//! No clause says which lines can be read: tests show it.
 ghost use Rattle.std.specs.Prelude.{◌≡◌};
 
 use crate::causes::cause_of;
@@ -127,7 +127,7 @@ fn way_in(reply: &str) -> Option<Way> {
     Some(Way { kind, target })
 }
 
-/// What an event's line tells, `event ` left out; nothing where it can't be read.
+/// What an event's line tells, `event ` left out; nothing if it can't be read.
 fn told_by_event(text: &str) -> Option<Told> {
     let (event, reply) = text.split_once(" -> ")?;
     let event = read_event(event)?;
@@ -150,7 +150,7 @@ fn is_fault(text: &str) -> bool {
     text.starts_with("abis ") || text.starts_with("a ") || text.starts_with("rr ")
 }
 
-/// What a line without a message tells; nothing where it can't be read. Lines that aren't counted tell nothing.
+/// What a line without a message tells; nothing if it can't be read. Lines that aren't counted tell nothing.
 fn told_by_text(text: &str) -> Option<Told> {
     if let Some(event) = text.strip_prefix("event ") {
         return told_by_event(event);
@@ -168,7 +168,7 @@ fn told_by_text(text: &str) -> Option<Told> {
 }
 
 impl<A: Allocator + Copy> RunSummary<A> {
-    /// What an input's line tells, `in ` left out; nothing where it can't be read.
+    /// What an input's line tells, `in ` left out; nothing if it can't be read.
     fn told_by_input_text(&mut self, text: &str) -> Result<Option<Told>, AllocError> {
         let Some(input) = input_of(self.alloc, text)? else {
             return Ok(None);
@@ -178,7 +178,7 @@ impl<A: Allocator + Copy> RunSummary<A> {
         Ok(Some(self.told_by(&line, &content)?))
     }
 
-    /// What a message's line tells that is sent, `out ` left out; nothing where it can't be read.
+    /// What a message's line tells that is sent, `out ` left out; nothing if it can't be read.
     fn told_by_sent_text(&mut self, text: &str) -> Result<Option<Told>, AllocError> {
         let Some(input) = input_of(self.alloc, text)? else {
             return Ok(None);
@@ -205,7 +205,7 @@ impl<A: Allocator + Copy> RunSummary<A> {
         }))
     }
 
-    /// What a line tells, without its mark and words; nothing where it can't be read.
+    /// What a line tells, without its mark and words; nothing if it can't be read.
     fn told_in(&mut self, text: &str) -> Result<Option<Told>, AllocError> {
         if let Some(input) = text.strip_prefix("in ") {
             return self.told_by_input_text(without_origin(input));

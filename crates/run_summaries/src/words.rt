@@ -1,6 +1,6 @@
 //! The counts in words.
 //!
-//! No clause says what is printed: that is shown by tests. What the numbers are is said in `run_counts`.
+//! No clause says what is printed: tests show it. `run_counts` says what the numbers are.
 use crate::figures::{FIGURES, Figure, Scope, count_of, figure_of};
 use crate::rates::{ENDS, RATES, Rate, Tried, end_at, is_begin, is_goal, moved, rate_of};
 use crate::runs::RunSummary;

@@ -336,7 +336,7 @@ impl<A: Allocator + Copy> RunChart<A> {
         }
     }
 
-    /// Adds a line of a controller with this mark, which carries this, about this call. Where memory is refused the chart may
+    /// Adds a line of the controller with this mark, with this content, about this call. If memory is refused, the chart may
     /// lack a row of it.
     pub fn add_line(
         &mut self,

@@ -1,4 +1,4 @@
-//! Inputs that come to nothing.
+//! Inputs without effect.
 use cell_table::Site;
 use channel_fsm::ChanState;
 use exchange::{Inbound, Line};

@@ -1,4 +1,4 @@
-//! Who stands where.
+//! The columns of a chart: who is in which.
 use chart::Side;
 use std::alloc::{AllocError, Allocator};
 use trace_text::trace::Mark;

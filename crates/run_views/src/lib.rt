@@ -1,8 +1,8 @@
-//! Views of a run: its trace with words, with what was decided by reports and with what the books hold, as a capture file, as a
-//! sequence chart, and counted.
+//! Views of a run: its trace with words, with the decisions after reports, and with what the books hold; a capture file; a
+//! sequence chart; and counts.
 //!
-//! A [`Viewer`] listens to a run, prints its trace, turn by turn, and gathers what else is asked for. A [`LiveViewer`] listens
-//! to lines as they come, and writes what it gathers at once.
+//! A [`Viewer`] listens to a run, prints its trace, turn by turn, and gathers the other views. A [`LiveViewer`] listens to
+//! lines as they come, and writes what it gathers at once.
 //!
 //! In a chart each input has its number at the left; messages are arrows between mobiles, stations, controllers and the switching
 //! centre; what was asked of the book, with its reply, is a note at the controller, with a thick frame where it was refused.

@@ -1,4 +1,4 @@
-//! A listener that views what comes of lines as they come.
+//! A listener that shows views of lines as they come.
 use crate::sheets::{Sheet, Sheets, say_left_out};
 use crate::viewer::Viewer;
 use capture::RunCapture;
@@ -13,8 +13,9 @@ use std::io::{self, Write};
 use trace_text::trace::Mark;
 use view_options::Views;
 
-/// Prints the trace of lines as they come, as [`Viewer`] does that of a run, and writes the capture to its file as it grows. A
-/// capture that can't be written any more ends alone. What the lines tell is counted, and shown where a line asks for it.
+/// Prints the trace of lines as they come, as [`Viewer`] does for a run, and writes the capture to its file as it grows. If
+/// the capture can't be written any more, only the capture ends. The lines are counted, and the counts are shown when a line
+/// asks for them.
 #[derive(Drop)]
 pub struct LiveViewer<'a, W: Write, F: Write + Drop, A: Allocator + Copy = Global> {
     viewer: Viewer<'a, W, A>,
@@ -22,7 +23,7 @@ pub struct LiveViewer<'a, W: Write, F: Write + Drop, A: Allocator + Copy = Globa
     pcap: Option<Sheet<F>>,
     /// Whether it couldn't be.
     is_cut: bool,
-    /// Why nothing came of the line, where it asked in vain.
+    /// Why the line had no effect, if it asked in vain.
     unmet: Option<Unmet>,
 }
 
@@ -48,8 +49,8 @@ fn say_cut<E: Write>(path: &str, error: io::Error, errors: &mut E) -> io::Result
 }
 
 impl<'a, W: Write, F: Write + OpenFile + Drop, A: Allocator + Copy> LiveViewer<'a, W, F, A> {
-    /// A viewer that prints to `out`. The capture's file is emptied, and gets its header; where that can't be, `errors` says
-    /// why. The chart's stays as it is: a chart is of a run that has ended.
+    /// A viewer that prints to `out`. The capture's file is emptied, and gets its header; if that fails, `errors` says why.
+    /// The chart's file stays as it is: a chart shows a run that has ended.
     pub fn new<E: Write>(
         alloc: A,
         views: &Views<'_>,
@@ -68,13 +69,13 @@ impl<'a, W: Write, F: Write + OpenFile + Drop, A: Allocator + Copy> LiveViewer<'
         })
     }
 
-    /// What is told begins with this book, and not with an empty one.
+    /// The trace begins with this book instead of an empty one.
     pub fn begin_with(&mut self, book: &Book<A>) -> Result<(), AllocError> {
         self.viewer.begin_with(book)
     }
 
-    /// Ends it: says on `errors` how many messages the capture hasn't. Where its file couldn't be written to the end, as
-    /// `errors` was told then, the answer is `Write`.
+    /// Ends the views, and says on `errors` how many messages the capture lacks. If its file couldn't be written to the end
+    /// (`errors` was told then), the answer is `Write`.
     pub fn finish<E: Write>(self, errors: &mut E) -> Result<(), LabFault> {
         let LiveViewer {
             viewer,
@@ -123,7 +124,7 @@ impl<W: Write, F: Write + Drop, A: Allocator + Copy> Listener<A> for LiveViewer<
         Ok(())
     }
 
-    /// Where memory is refused, the messages that weren't shown yet are printed without views.
+    /// If memory is refused, the messages that weren't shown yet are printed without views.
     fn hear_turn(&mut self, mark: Mark, turn: &Turn<A>, book: &Book<A>) -> Result<(), LabFault> {
         match self.viewer.hear_turn(mark, turn, book) {
             Ok(()) => Ok(()),

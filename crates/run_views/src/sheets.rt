@@ -26,7 +26,7 @@ struct LaterPages<'a> {
     kept: &'a [&'a str],
 }
 
-/// The files that a run's views are written to once it ended.
+/// The files to which a run's views are written when it has ended.
 #[derive(Drop)]
 pub struct Sheets<'a, F: Write + Drop> {
     pcap: Option<Sheet<F>>,
@@ -364,7 +364,7 @@ fn write_chart<
 }
 
 impl<F: Write + OpenFile + Drop> Sheets<'_, F> {
-    /// The file of the capture, emptied, where there is one. Where it can't be emptied, `errors` says why.
+    /// The file of the capture, emptied, if there is one. Where it can't be emptied, `errors` says why.
     pub(crate) fn into_pcap<E: Write>(self, errors: &mut E) -> Result<Option<Sheet<F>>, LabFault> {
         let Sheets {
             pcap,
