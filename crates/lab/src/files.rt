@@ -297,10 +297,10 @@ fn run_named<R: Files + AllocGlobal, W: Write, E: Write>(
     let title = title_of(rt.alloc(), paths.script, &texts.sites)?;
     let kept = kept_paths(rt.alloc(), paths, views)?;
     let run = ViewedRun {
-        title: &title,
-        kept: &kept,
+        title: title.as_str(),
+        kept: kept.as_slice(),
         sites: &texts.sites,
-        script: &texts.script,
+        script: texts.script.as_str(),
     };
     run_viewed(rt, run, views, out, errors)
 }

@@ -11,17 +11,13 @@ use std::io::{self, Write};
 use std::rt::Files;
 use view_options::{ChartView, Views};
 
-/// Whether a character is left out where it begins the path of a script.
-fn is_of_folder(character: char) -> bool {
-    character == '.' || character == '/'
-}
-
 /// The name under which a script is kept: its path without `.txt`, with a hyphen for each slash. Dots and slashes that begin it are
 /// left out, so that it is a name within the folder.
 fn kept_name(alloc: Global, path: &str) -> Result<String, AllocError> {
     let path = path.strip_suffix(".txt").unwrap_or(path);
+    let path = path.trim_start_matches(|letter: char| letter == '.' || letter == '/');
     let mut name = String::new(alloc);
-    for character in path.trim_start_matches(is_of_folder).chars() {
+    for character in path.chars() {
         name.push(if character == '/' { '-' } else { character })?;
     }
     Ok(name)
@@ -65,9 +61,9 @@ pub(crate) fn keep_run<R: Files + AllocGlobal, E: Write>(
     let chart = format!(in alloc; "{folder}/{name}.svg")?;
     let pcap = format!(in alloc; "{folder}/{name}.pcap")?;
     let views = Views {
-        pcap: Some(&pcap),
+        pcap: Some(pcap.as_str()),
         chart: Some(ChartView {
-            path: &chart,
+            path: chart.as_str(),
             looks: false,
             pages: false,
         }),
@@ -77,13 +73,13 @@ pub(crate) fn keep_run<R: Files + AllocGlobal, E: Write>(
     let title = title_of(alloc, path, sites)?;
     let others = [path, pcap.as_str()];
     let run = ViewedRun {
-        title: &title,
+        title: title.as_str(),
         kept: &others,
         sites,
         script,
     };
     match run_viewed(rt, run, &views, &mut printed, errors)? {
-        Some(_) => is_done(&trace, fs::write(rt, &trace, &printed), errors),
+        Some(_) => is_done(&trace, fs::write(rt, trace.as_str(), &printed), errors),
         None => Ok(false),
     }
 }

@@ -89,11 +89,13 @@ fn test_over<R: Files + AllocGlobal, W: Write, E: Write>(
         // the sites were read before
         say_line(alloc, test.name, text, has_peer, naming, errors)?;
     }
-    match (status, kept) {
-        (Status::Differs, Some(folder)) if !keep_run(rt, folder, test.name, sites, text, errors)? =>
-            { Ok(Status::Refused) }
-        _ => Ok(status),
+    if status == Status::Differs
+        && let Some(folder) = kept
+        && !keep_run(rt, folder, test.name, sites, text, errors)?
+    {
+        return Ok(Status::Refused);
     }
+    Ok(status)
 }
 
 /// Tests the script of a file.

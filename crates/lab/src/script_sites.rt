@@ -141,7 +141,7 @@ impl OwnSite {
     /// Where its text comes from.
     fn source(&self) -> SiteSource<'_> {
         match self {
-            OwnSite::File(path) => SiteSource::File(path),
+            OwnSite::File(path) => SiteSource::File(path.as_str()),
             OwnSite::Cells(site) => SiteSource::Cells(*site),
         }
     }
