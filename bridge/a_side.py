@@ -10,6 +10,7 @@ from bssmap import Cause, Type
 from elements import IMSI, elements_in, imsi_in
 from link_layer import LONGEST, MAIN_SAPI, SHORT_SAPI
 from outgoing import OutgoingCalls
+from page import keeps
 from rtp import codec_of
 from tell import Level, Since, say
 
@@ -25,6 +26,10 @@ WRONG_NAMES = "where the centre runs, centre.own or centre.peer may be wrong, or
 SAPI = 0x07
 
 
+@keeps(
+    *("is_there", "since", "is_up", "counts", "sign", "unanswered_in_a_row", "resets_in_vain"),
+    wired=("relay", "times", "seconds", "connections", "outgoing"),
+)
 class ASide:
     """The centre, as the bridge knows it. `connections` is the end of SCCP, which tells what comes; `relay` has the
     controller, the calls, and the air."""
@@ -41,6 +46,17 @@ class ASide:
         # how often something was heard of the centre; how many connections in a row it didn't answer, while nothing was; and how
         # often RESET was said in vain
         self.sign = self.unanswered_in_a_row = self.resets_in_vain = 0
+
+    def resume(self):
+        """Goes on with the times that another bridge has set."""
+        if self.times.was_set("t4"):
+            self.run_t4()
+        if self.times.was_set("t13"):
+            self.run_t13()
+        for call in self.relay.talks.by_number.values():
+            if self.times.was_set(("clearing", call.number)):
+                self.await_release(call)
+        self.outgoing.resume()
 
     # The link
 
@@ -67,6 +83,10 @@ class ASide:
     def reset(self):
         """Says RESET until it is acknowledged."""
         self.connections.unit_data(bssmap.reset())
+        self.run_t4()
+
+    def run_t4(self):
+        """The acknowledgement of RESET is waited for."""
         self.times.set("t4", self.seconds["t4"], self.reset_again)
 
     def reset_again(self):
@@ -141,11 +161,15 @@ class ASide:
             say("A: the centre begins anew, and all calls end", Level.WARNING)
             self.counts["resets"] += 1
             self.leave()
-            self.times.set("t13", self.seconds["t13"], self.acknowledge)
+            self.run_t13()
         elif kind == Type.PAGING and self.is_there:
             self.relay.paging.asked(octets)
         else:
             self.relay.count(f"of no connection: {octets[:3].hex() or 'empty'}")
+
+    def run_t13(self):
+        """The centre's RESET is acknowledged after a while."""
+        self.times.set("t13", self.seconds["t13"], self.acknowledge)
 
     def acknowledge(self):
         """Acknowledges the centre's RESET."""
@@ -201,7 +225,7 @@ class ASide:
     def data(self, connection, octets):
         """A message on a connection came."""
         self.show_sign()
-        call = getattr(connection, "call", None)
+        call = connection.call
         if found := bssmap.dtap_in(octets):
             self.data_for_mobile(call, *found)
         elif (kind := bssmap.kind_of(octets)) is None:
@@ -248,7 +272,7 @@ class ASide:
 
     def ended(self, connection, why):
         """A connection has ended. The controller is told to clear its call, where that goes on."""
-        call = getattr(connection, "call", None)
+        call = connection.call
         if call is None or call.connection is not connection:
             return
         call.connection = None
@@ -307,9 +331,13 @@ class ASide:
         if call.connection:
             if not call.is_clearing and not is_told:
                 self.send(call, bssmap.clear_request(Cause.OPERATOR))
-            self.times.set(("clearing", call.number), self.seconds["clearing"], lambda: self.finish(call))
+            self.await_release(call)
         elif not call.is_cut:
             self.relay.forget(call)
+
+    def await_release(self, call):
+        """The centre has to release the connection of a call in time."""
+        self.times.set(("clearing", call.number), self.seconds["clearing"], lambda: self.finish(call))
 
     def finish(self, call):
         """The centre doesn't release a connection whose call is over."""

@@ -3,6 +3,7 @@ import dataclasses
 import enum
 import itertools
 
+from page import keeps
 from rsl import CHANNEL_NUMBER, COMMON, kind
 
 # Common channel management, by type (TS 48.058, 8.5).
@@ -61,6 +62,7 @@ BEGINNINGS = (
 )
 
 
+@keeps()
 @dataclasses.dataclass(frozen=True)
 class Request:
     """CHANNEL REQUIRED: the request reference, which is the mobile's octet and the time, and the delay of its burst."""

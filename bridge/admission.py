@@ -8,6 +8,7 @@ import time
 
 import access
 from access import Cause
+from page import keeps
 from sites import TIMESLOT, free_in
 from stations import Station
 
@@ -33,6 +34,7 @@ class Rejected(enum.Enum):
     NO_NUMBER = "no number of a call is free"
 
 
+@keeps()
 @dataclasses.dataclass(frozen=True)
 class Waiting:
     """A request that waits: of which station, and since when."""
@@ -42,6 +44,7 @@ class Waiting:
     since: float = dataclasses.field(default_factory=time.monotonic)
 
 
+@keeps("emergencies", "others", "is_asked")
 class Queue:
     """The requests of a cell that wait."""
 
@@ -80,6 +83,7 @@ class Queue:
                 yield waiting.popleft()
 
 
+@keeps("queues", wired=("air", "relay", "times", "neci", "most_awaited", "reserve"))
 class Admission:
     """The requests of all cells. `air` has a request begin a call, or refuses it."""
 
@@ -87,6 +91,14 @@ class Admission:
         self.air, self.relay, self.times = air, air.relay, times
         self.neci, self.most_awaited, self.reserve = config.broadcast.neci, config.awaited, config.emergency_reserve
         self.queues: collections.defaultdict = collections.defaultdict(Queue)
+
+    def resume(self):
+        """Goes on with the times that another bridge has set."""
+        for cell in self.queues:
+            if self.times.was_set(("late", cell)):
+                self.await_late(cell)
+            if self.times.was_set(("requests", cell)):
+                self.await_turn(cell)
 
     def add(self, station, request):
         """A mobile asks for a channel. Its turn comes behind all that is read now, so that an emergency call among that is first.
@@ -165,6 +177,7 @@ class Admission:
         return len(self.queues[cell]) if cell in self.queues else 0
 
 
+@keeps("waiting", wired=("times", "send", "seconds"))
 class Rejections:
     """Requests that are rejected, of which one message tells up to four."""
 
@@ -172,18 +185,30 @@ class Rejections:
         """`send` is given a station and a message for the mobiles of its cell; `seconds` is how long a mobile isn't to ask again.
         """
         self.times, self.send, self.seconds = times, send, round(min(seconds, 255))
-        self.waiting: collections.defaultdict = collections.defaultdict(list)
+        # by cell the station of the first, and all requests
+        self.waiting: dict[int, tuple] = {}
+
+    def resume(self):
+        """Goes on with the times that another bridge has set."""
+        for station, _ in list(self.waiting.values()):
+            if self.times.was_set(("rejections", station.cell)):
+                self.await_others(station)
 
     def add(self, station, request):
         """A request is rejected."""
-        waiting = self.waiting[station.cell]
-        waiting.append(request)
-        if len(waiting) == access.MOST_REJECTED:
+        _, requests = self.waiting.setdefault(station.cell, (station, []))
+        requests.append(request)
+        if len(requests) == access.MOST_REJECTED:
             self.tell(station)
-        elif len(waiting) == 1:
-            self.times.set(("rejections", station.cell), TOGETHER, lambda: self.tell(station))
+        elif len(requests) == 1:
+            self.await_others(station)
+
+    def await_others(self, station):
+        """Others may be told with the first."""
+        self.times.set(("rejections", station.cell), TOGETHER, lambda: self.tell(station))
 
     def tell(self, station):
         """Mobiles of a cell are told."""
         self.times.forget(("rejections", station.cell))
-        self.send(station, access.rejection(self.waiting.pop(station.cell), self.seconds))
+        _, requests = self.waiting.pop(station.cell)
+        self.send(station, access.rejection(requests, self.seconds))

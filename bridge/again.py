@@ -13,6 +13,7 @@ import bssmap
 import rsl
 from calls import OFF, ON, PENDING, Event
 from journal import Journal, JournalError
+from page import keeps
 from tell import Level, Since, say, shown
 from trial import Trial
 from watch import Watch
@@ -50,6 +51,13 @@ class Upgrade:
         self.operator.tell(text)
 
 
+@keeps(
+    *("command", "notes", "lost_since", "ended_at", "count", "begun_at", "begun", "vain", "early", "is_new", "has_gone_on"),
+    wired=(
+        *("bridge", "relay", "times", "most", "journal", "watch", "trial", "trying", "upgrading", "vain_upgrade"),
+        "has_failed",
+    ),
+)
 class Again:
     """The controller of a bridge, which may end and be started again."""
 
@@ -351,6 +359,16 @@ class Again:
         if self.vain_upgrade:
             (it, why), self.vain_upgrade = self.vain_upgrade, None
             it.tell(f"refused: upgrade {it.program}: {why}, and {what}")
+
+    def unkept(self):
+        """Why another bridge couldn't go on with the controller as it is just now; None where it could."""
+        if self.trial:
+            return "another program is being tried in the controller's place"
+        if self.upgrading and self.upgrading.line is None:
+            return "another program takes the controller's place just now"
+        if self.relay.is_away or not self.relay.is_taking():
+            return "the controller isn't there just now"
+        return None
 
     def leave(self):
         """The bridge ends: what is tried does, too."""

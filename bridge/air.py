@@ -8,6 +8,7 @@ from admission import HALF, Admission, Rejected, Rejections
 from assignment import MODE_MODIFY_ACKNOWLEDGE, Mode
 from ciphering import COMPLETE
 from operators import Operator
+from page import keeps
 from short_messages import ShortLinks
 
 # For how many seconds a request is known again: that of the same mobile comes with the next bursts.
@@ -20,6 +21,7 @@ MOST_WAITING = 64
 LINK_FAILURE = b"\x1a\x01\x01"
 
 
+@keeps("air", "call", "may_be_half")
 class Seizing(Operator):
     """Who asks the controller for some channel of a cell, as operators ask it: hears what it answers, line by line."""
 
@@ -40,6 +42,7 @@ class Seizing(Operator):
             self.air.given(self.call)
 
 
+@keeps("requests", wired=("relay", "times", "seconds", "cells", "short", "admission", "rejections"))
 class Air:
     """What goes between mobiles and the centre. `relay` has stations, calls and the centre."""
 
@@ -50,6 +53,17 @@ class Air:
         self.admission = Admission(self, times, config)
         self.rejections = Rejections(times, self.send_common, seconds["t3122"])
         self.requests = set()
+
+    def resume(self):
+        """Goes on with the times that another bridge has set."""
+        for cell, reference in self.requests:
+            if self.times.was_set(("request", cell, reference)):
+                self.forget_later(cell, reference)
+        for call in self.relay.talks.by_number.values():
+            if self.times.was_set(("t3101", call.number)):
+                self.run_t3101(call)
+        for it in (self.short, self.admission, self.rejections):
+            it.resume()
 
     # A mobile asks for a channel
 
@@ -74,6 +88,10 @@ class Air:
         if len(self.requests) >= MOST_KNOWN:
             return
         self.requests.add((cell, reference))
+        self.forget_later(cell, reference)
+
+    def forget_later(self, cell, reference):
+        """Behind a while it is another one."""
         self.times.set(("request", cell, reference), KNOWN_AGAIN, lambda: self.requests.discard((cell, reference)))
 
     def begin(self, station, request):
@@ -115,6 +133,10 @@ class Air:
         cell = self.cells[channel.cell]
         description = access.described(channel, cell.carriers[channel.trx], cell.colours & 7)
         self.send_common(call.station, access.assignment(call.request, description))
+        self.run_t3101(call)
+
+    def run_t3101(self, call):
+        """The mobile is awaited."""
         self.times.set(("t3101", call.number), self.seconds["t3101"], lambda: self.missed(call), self.relay.once_read)
 
     def missed(self, call):

@@ -5,9 +5,11 @@ from assignment import Mode, speech_elements
 from bssmap import Cause, Type
 from ciphering import was_in_clear
 from elements import elements_in
+from page import keeps
 from speech_request import CHANNEL_TYPE, Unserved, codec_on, is_for_speech, wanted_by
 
 
+@keeps("wanted", "held", "cause")
 class Arrival:
     """A call that comes: what was asked for, the acknowledgement that waits, and why there is none, once that is known."""
 
@@ -66,7 +68,7 @@ class Arrivals:
             self.fail(call, unserved.cause)
             return
         address = call.arrival.wanted.address
-        self.relay.media.begin(call, address, lambda: self.joined(call), lambda cause: self.fail(call, cause))
+        self.relay.media.begin(call, address, self)
 
     def joined(self, call):
         """The call has speech: its acknowledgement goes, with what the centre has to know of it."""

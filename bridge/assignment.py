@@ -6,6 +6,7 @@ import enum
 import access
 import bssmap
 from bssmap import Cause, Type
+from page import keeps
 from rtp import codec_of
 from speech_request import Kind, Unserved, codec_on, wanted_by
 
@@ -17,6 +18,7 @@ DESCRIPTION = 3
 COMPLETE, FAILURE, GIVEN_UP, UNREAD = "complete", "failure", "given up", "unread"
 
 
+@keeps()
 class Mode(enum.IntEnum):
     """The modes of a channel (TS 44.018, 10.5.2.6): signalling alone, and speech of version 1 at the channel's rate."""
 
@@ -24,6 +26,7 @@ class Mode(enum.IntEnum):
     SPEECH = 0x01
 
 
+@keeps("wanted", "channel", "is_joining", "told")
 class Assignment:
     """What the centre asked for, on which channel the call was then, and the mode that the mobile was told, if it was."""
 
@@ -38,6 +41,12 @@ class Assignments:
 
     def __init__(self, relay, times, seconds):
         self.relay, self.times, self.seconds = relay, times, seconds
+
+    def resume(self):
+        """Goes on with the times that another bridge has set."""
+        for call in self.relay.talks.by_number.values():
+            if self.times.was_set(("t10", call.number)):
+                self.run_t10(call)
 
     def requested(self, call, message):
         """ASSIGNMENT REQUEST came."""
@@ -82,7 +91,7 @@ class Assignments:
             self.fail(call, unserved.cause)
             return
         call.assignment.is_joining = True
-        self.relay.media.begin(call, wanted.address, lambda: self.joined(call), lambda cause: self.fail(call, cause))
+        self.relay.media.begin(call, wanted.address, self)
 
     def joined(self, call):
         """They have it. Where the call moves meanwhile, the mobile is told where it is then."""
@@ -101,6 +110,10 @@ class Assignments:
         cell = self.relay.config.cells[channel.cell]
         description = access.described(channel, cell.carriers[channel.trx], cell.colours & 7)
         self.relay.air.send(call, MODE_MODIFY + description + bytes([mode]))
+        self.run_t10(call)
+
+    def run_t10(self, call):
+        """The acknowledgement is waited for."""
         self.times.set(("t10", call.number), self.seconds["t10"], lambda: self.expired(call), self.relay.once_read)
 
     def expired(self, call):

@@ -7,6 +7,7 @@ import signal
 import socket
 import stat
 import subprocess
+import sys
 import time
 
 import faults
@@ -15,10 +16,12 @@ from child import begin, kill_all
 from figures import FiguresFile
 from links import Links
 from log import Log
-from operators import QUIET, Client, Operator, Turns
+from operators import QUIET, Client, Standard, Turns
+from page import Unkept, keeps
 from relay import Relay
 from sites import traffic_channels
-from stream import Lines, Selector, Stream, Times
+from stream import Selector, Stream, Times
+from succession import SIGNALS, Begun, Succession, opened, state_in, take_over
 from tell import ERRORS, OUTPUT, Level, say, says_up_to, shown
 
 # How long the controller may take to end, in seconds.
@@ -29,8 +32,17 @@ UNREAD = 5.0
 MOST_FAULTS = 100
 # After how many milliseconds is looked again whether the controller has ended that prints nothing more.
 SOON = 10
+# What listens: for stations, and for operators.
+STATIONS, OPERATORS = "stations", "operators"
 
 
+@keeps(
+    *("sockets", "clients", "came", "standard", "listeners", "core", "errors", "is_garbled", "is_faulty", "unlogged"),
+    wired=(
+        *("words", "selector", "times", "relay", "links", "turns", "control", "figures", "again", "succession", "signals"),
+        *("is_ending", "is_killed"),
+    ),
+)
 class Bridge:
     """Sockets, the controller, and the time."""
 
@@ -39,8 +51,8 @@ class Bridge:
 
     def __init__(self, words, make_relay=Relay):
         """`words` are the settings: `stations`, `seconds`, `bind`, `port`, `log`, `control`, `figures`, `figures_every`,
-        `messages`, `again`, `hang`, `log_level`, and `core`, the controller's command. The controller and standard input are there
-        once it has started."""
+        `messages`, `again`, `hang`, `log_level`, and `core`, the controller's command. `arguments` are the command line, and `paths`
+        the files that were read. The controller and standard input are there once it has started."""
         self.words = words
         says_up_to(words.log_level)
         self.selector = Selector()
@@ -49,45 +61,100 @@ class Bridge:
         self.relay.tells_messages, self.relay.site = words.messages, traffic_channels(words.core)
         self.sockets = {}
         self.links = self.relay.links = Links(self.relay, self.close)
+        # the operators at the control socket, and how many have come; and the one at standard input
         self.clients: set[Client] = set()
-        self.operator: Stream
+        self.came = 0
+        self.standard: Standard | None = None
         self.turns = Turns(self.relay)
-        self.listeners = []
+        self.listeners: dict[str, socket.socket] = {}
         self.control = self.figures = None
-        self.core: subprocess.Popen
+        self.core: subprocess.Popen | None = None
+        # what it says on standard error
+        self.errors: Stream | None = None
+        # of the log what the bridge before hadn't written, and how many lines were missing there
+        self.unlogged: tuple[bytes, int] = (b"", 0)
+        self.succession = self.relay.succession = Succession(self, Begun(words.arguments, words.paths))
+        self.signals: tuple[socket.socket, socket.socket] | None = None
         self.again = self.relay.again = Again(self, words.core, words.again, words.hang)
         # whether all ends, and whether the controller was killed for that; and whether that has printed what none does
         self.is_ending = self.is_killed = self.is_garbled = False
         # whether it ends since it has a fault itself
         self.is_faulty = False
 
-    def start(self):
-        """Opens what is to be open, the controller last."""
-        words = self.words
+    def start(self, state=None):
+        """Opens what is to be open, the controller last. Where there is the state of a bridge whose place this one takes, it goes on
+        with that."""
+        words, self.control = self.words, self.words.control
+        if state:
+            take_over(self, state, opened)
         if words.log:
-            self.relay.log = Log(words.log, self.times)
-        family = socket.AF_INET6 if ":" in words.bind else socket.AF_INET
-        listener = socket.create_server((words.bind, words.port), family=family)
-        self.listen(listener, self.accept, faults.STATION)
-        if words.control:
-            self.listen(control_socket(words.control), self.accept_operator, faults.OPERATOR)
-            self.control = words.control
+            self.relay.log = Log(words.log, self.times, *self.unlogged)
+        if not state:
+            family = socket.AF_INET6 if ":" in words.bind else socket.AF_INET
+            self.listeners[STATIONS] = socket.create_server((words.bind, words.port), family=family)
+            if words.control:
+                self.listeners[OPERATORS] = control_socket(words.control)
+        for name in self.listeners:
+            self.listen(name)
         if words.figures:
             self.figures = FiguresFile(words.figures, words.figures_every, self.times, self.relay.figures)
         self.watch_signals()
-        self.again.start()
-        self.hear_operator()
+        if state:
+            self.join()
+        else:
+            self.begin()
         only = f", for stations of this machine alone ({self.BIND})" if words.bind.startswith(("127.", "::1")) else ""
-        say(f"listens on {words.bind}, port {listener.getsockname()[1]}{only}")
+        say(f"listens on {words.bind}, port {self.listeners[STATIONS].getsockname()[1]}{only}")
+        if state:
+            self.succession.tell()
+
+    def begin(self):
+        """Starts the controller, and hears the operator at standard input."""
+        self.again.start()
+        self.standard = Standard(self)
+
+    # Another bridge in this one's place
+
+    def parts(self):
+        """The parts of which a page tells (page.py), by their names."""
+        own = {"bridge": self, "times": self.times, "selector": self.selector, "turns": self.turns, "succession": self.succession}
+        return {**own, **self.relay.parts()}
+
+    def unkept(self):
+        """What can't be kept just now, in words; None where all can."""
+        return None
+
+    def resume(self):
+        """Goes on with the times that another bridge has set."""
+        self.relay.resume()
+        for client in self.clients:
+            client.resume()
+
+    def join(self):
+        """Is told what comes of all that another bridge has opened."""
+        self.join_core()
+        for it in (self.standard, *self.clients, *self.links.all):
+            it.join()
+            it.stream.watch()
+
+    # The controller
 
     def start_core(self, command):
         """Starts the controller."""
         self.core, writes, reads, errors = begin(command)
         self.is_garbled = False
-        lines = Lines(self.hear)
-        self.relay.core = Stream(self.selector, reads, writes, lines.add, lambda: self.core_ended(lines), self.core_unread)
-        said = Lines(self.hear_error)
-        self.errors = Stream(self.selector, errors, None, said.add, lambda: self.errors_ended(said))
+        self.relay.core, self.errors = Stream(self.selector, reads, writes), Stream(self.selector, errors)
+        self.join_core()
+
+    def join_core(self):
+        """Is told what the controller prints, and says on standard error."""
+        core, errors = self.relay.core, self.errors
+        core.hear_lines(self.hear)
+        core.ended, core.unread = lambda: self.core_ended(core.lines), self.core_unread
+        errors.hear_lines(self.hear_error)
+        errors.ended = lambda: self.errors_ended(errors.lines)
+        for it in (core, errors):
+            it.watch()
 
     def hear(self, line):
         """Hears what the controller prints. Where that is no line of a controller's, nothing more is heard of it."""
@@ -109,29 +176,15 @@ class Bridge:
         elif not self.is_ending:
             self.end("the controller reads no more")
 
-    def hear_operator(self):
-        """Takes the lines of standard input. That is left blocking, since others may have it too."""
-
-        def ended():
-            if rest := lines.end():
-                operator.refuse_torn(rest)
-            self.operator.leave()
-            if not self.control and not self.is_ending:
-                self.end("standard input has ended", Level.NOTICE)
-
-        operator = Operator(self.relay, "operator at standard input")
-        lines = Lines(lambda line: self.turns.add(operator, line))
-        self.operator = operator.stream = Stream(self.selector, 0, None, lines.add, ended)
-        self.operator.is_operators, self.operator.faulty = True, operator.faulty
-
-    def listen(self, listener, accept, place):
-        """Waits for those who connect. Where the system has no room for one, it is asked again after a while. `place` is where
-        faults of the bridge are counted that are met then."""
+    def listen(self, name):
+        """Waits for those who connect to a listener. Where the system has no room for one, it is asked again after a while. Faults of
+        the bridge that are met then are counted where those of stations or of operators are."""
+        accept, place = {STATIONS: (self.accept, faults.STATION), OPERATORS: (self.accept_operator, faults.OPERATOR)}[name]
+        listener = self.listeners[name]
         listener.setblocking(False)
-        self.listeners.append(listener)
 
         def watch():
-            if listener in self.listeners:
+            if self.listeners.get(name) is listener:
                 self.selector.register(listener, selectors.EVENT_READ, take)
 
         def take(_mask):
@@ -149,19 +202,24 @@ class Bridge:
         watch()
 
     def watch_signals(self):
-        """Ends where a signal says so, and at once where another does; HUP opens the log anew."""
+        """Ends where a signal says so, and at once where another does; HUP opens the log anew, and by USR2 another bridge takes this
+        one's place."""
         ear, mouth = socket.socketpair()
         ear.setblocking(False)
         mouth.setblocking(False)
         signal.set_wakeup_fd(mouth.fileno())
-        for number in (signal.SIGINT, signal.SIGTERM, signal.SIGHUP):
+        for number in SIGNALS:
             signal.signal(number, lambda _number, _frame: None)
+        # those that came while a new bridge began are heard now
+        signal.pthread_sigmask(signal.SIG_UNBLOCK, SIGNALS)
         self.signals = (ear, mouth)
         self.selector.register(ear, selectors.EVENT_READ, lambda _mask: self.take_signal(ear.recv(1)[0]))
 
     def take_signal(self, number):
         """A signal came."""
-        if number != signal.SIGHUP:
+        if number == signal.SIGUSR2:
+            self.succession.ask(None)
+        elif number != signal.SIGHUP:
             self.end(f"signal {number}", Level.NOTICE)
         elif self.relay.log:
             self.relay.log.open_anew()
@@ -180,7 +238,8 @@ class Bridge:
     def accept_operator(self, listener):
         """An operator connects."""
         connection, _ = listener.accept()
-        self.clients.add(Client(self, connection))
+        self.came += 1
+        self.clients.add(Client(self, connection, self.came))
 
     def close(self, link):
         """Closes the socket of a link."""
@@ -195,8 +254,9 @@ class Bridge:
             return
         self.is_ending = True
         say(f"ends: {why}", level)
+        self.succession.leave()
         while self.listeners:
-            listener = self.listeners.pop()
+            _, listener = self.listeners.popitem()
             if listener in self.selector.get_map():
                 self.selector.unregister(listener)
             listener.close()
@@ -268,7 +328,7 @@ class Bridge:
         is_asked_much = self.relay.is_asked_much()
         for client in self.clients:
             client.stream.pause("busy", is_asked_much)
-        self.operator.pause("busy", is_asked_much)
+        self.standard.stream.pause("busy", is_asked_much)
 
     def run(self):
         """Does what comes, until the controller has ended; its status, which is 1 where none can go on."""
@@ -306,6 +366,7 @@ class Bridge:
         self.selector.end_failed()
         self.links.look()
         self.pause()
+        self.succession.look()
 
     def take_what_comes(self, seconds):
         """Waits so long for something, and takes what comes, each socket once; what comes of operators is given back."""
@@ -379,8 +440,26 @@ def control_socket(path):
     return listener
 
 
-def serve(make):
-    """Makes a bridge, and runs it to its end; its status."""
+def serve(words, make):
+    """Makes a bridge, and runs it to its end, or looks whether it could begin (--check); its status."""
+    state = None
+    try:
+        if words.takes_over:
+            state = state_in(words.takes_over)
+        if words.check:
+            if state:
+                take_over(make(), state)
+            return 0
+    except Unkept as why:
+        print(f"the page of the bridge before can't be taken: {why}", file=sys.stderr)
+        return 1
+    if state:
+        os.unlink(words.takes_over)
+    return run(make, state)
+
+
+def run(make, state):
+    """Makes a bridge, and runs it to its end, where it takes another's place with the state of that; its status."""
     for number in (0, 1, 2):
         # where one is closed, no socket is to get its number
         if not os.path.exists(f"/dev/fd/{number}"):
@@ -388,9 +467,9 @@ def serve(make):
     bridge = None
     try:
         bridge = make()
-        bridge.start()
+        bridge.start(state)
         status = bridge.run()
-    except OSError as error:
+    except (OSError, Unkept) as error:
         say(f"can't begin: {error}", Level.ERROR)
         status = 2
     finally:

@@ -6,7 +6,10 @@ centre, is 01, the data link (DLCI), its length and its octets.
 """
 import enum
 
+from page import keeps
 
+
+@keeps()
 class Type(enum.IntEnum):
     """The types of messages that are told apart (TS 48.008, 3.2.2.1)."""
 
@@ -36,6 +39,7 @@ class Type(enum.IntEnum):
     CIPHER_MODE_REJECT = 0x59
 
 
+@keeps()
 class Cause(enum.IntEnum):
     """Causes (TS 48.008, 3.2.2.5)."""
 

@@ -2,6 +2,7 @@
 import dataclasses
 import re
 
+from page import keeps
 from rsl import Channel
 from tell import Since
 
@@ -37,6 +38,7 @@ class Event:
         return found and cls(found[1], found[2], found[3].split(), found[4], found[5].split())
 
 
+@keeps()
 @dataclasses.dataclass
 class InUse:
     """A channel that is in use: its state, of which call, and since when."""
@@ -46,6 +48,7 @@ class InUse:
     since: Since = dataclasses.field(default_factory=Since)
 
 
+@keeps()
 @dataclasses.dataclass
 class Call:
     """A call: the channel that it is on, and its attempt at handover."""
@@ -56,6 +59,7 @@ class Call:
     target: Channel | None = None
 
 
+@keeps("calls", "channels")
 class Calls:
     """All calls and all channels in use."""
 

@@ -35,6 +35,34 @@ def begin(command):
     return process, writes, reads, errors
 
 
+class Adopted:
+    """A process that this one began before it became another program (succession.py): as of subprocess.Popen."""
+
+    def __init__(self, pid):
+        self.pid, self.returncode = pid, None
+
+    def poll(self):
+        """Its status, negative where a signal killed it; None while it runs."""
+        return self.look(os.WNOHANG)
+
+    def wait(self):
+        """Waits for its end; its status."""
+        return self.look(0)
+
+    def look(self, options):
+        """Looks whether it has ended."""
+        if self.returncode is None:
+            number, status = os.waitpid(self.pid, options)
+            if number:
+                self.returncode = os.waitstatus_to_exitcode(status)
+        return self.returncode
+
+    def kill(self):
+        """Kills it, unless it has ended."""
+        if self.poll() is None:
+            os.kill(self.pid, signal.SIGKILL)
+
+
 def kill_all(process):
     """Kills a process that was begun so, and what it has begun; not one that is gone, whose number may be another's."""
     if process.returncode is None:

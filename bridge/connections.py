@@ -7,6 +7,7 @@ user released it himself; and before that `unanswered(connection)`, where the ot
 import enum
 
 import sccp
+from page import keeps
 from sccp import Message, Type
 from tell import Level, Sayings
 
@@ -14,6 +15,7 @@ from tell import Level, Sayings
 MOST = 10_000
 
 
+@keeps()
 class State(enum.Enum):
     """How far a connection is."""
 
@@ -23,19 +25,23 @@ class State(enum.Enum):
     RELEASING = enum.auto()
 
 
+@keeps("own", "state", "other", "waiting", "sign", "call", "left")
 class Connection:
     """A connection: our reference, the other side's once it is known, and what waits to be sent."""
 
     def __init__(self, own, state, other=None):
         self.own, self.state, self.other = own, state, other
         self.waiting = []
-        # what the user notes of it as it asks for it
-        self.sign = 0
+        # what the user notes of it: how often he had heard of the other side as he asked for it, and his call
+        self.sign, self.call = 0, None
+        # how many times more RELEASED is said where that isn't answered
+        self.left = 0
 
     def __str__(self):
         return f"connection {self.own:06x}"
 
 
+@keeps("known", "next", wired=("user", "times", "seconds", "send", "own", "sayings", "expired", "takers"))
 class Connections:
     """One end of SCCP. `send` takes a message's octets for the link."""
 
@@ -45,6 +51,13 @@ class Connections:
         self.sayings = Sayings(times)
         self.known = {}
         self.next = 1
+        # what is done as each timer of a connection ends
+        self.expired = {
+            "connect": self.unanswered,
+            "release": self.say_released,
+            "silence": self.silent,
+            "alive": self.test,
+        }
         self.takers = {
             Type.CONNECTION_REQUEST: self.requested,
             Type.CONNECTION_CONFIRM: self.confirmed,
@@ -57,6 +70,13 @@ class Connections:
             Type.PROTOCOL_ERROR: self.refused,
             Type.INACTIVITY_TEST: self.tested,
         }
+
+    def resume(self):
+        """Goes on with the times that another bridge has set."""
+        for connection in self.known.values():
+            for timer in self.expired:
+                if self.times.was_set(("sccp", timer, connection.own)):
+                    self.arm(connection, timer)
 
     def say(self, text):
         """Says something of the other side, unless too much was said of it."""
@@ -81,7 +101,7 @@ class Connections:
             connection.waiting.append(octets)
         fields = {"source": connection.own, "class": sccp.CONNECTION_ORIENTED}
         self.put(Type.CONNECTION_REQUEST, fields, {"called": sccp.address()}, options)
-        self.arm(connection, "connect", lambda: self.unanswered(connection))
+        self.arm(connection, "connect")
         return connection
 
     def unanswered(self, connection):
@@ -118,7 +138,8 @@ class Connections:
         elif connection.state is State.OPEN:
             connection.state = State.RELEASING
             self.disarm(connection)
-            self.say_released(connection, 3)
+            connection.left = 3
+            self.say_released(connection)
 
     def lost(self):
         """The link is lost: all connections end."""
@@ -244,42 +265,44 @@ class Connections:
         self.disarm(connection)
         connection.state = State.RELEASING
 
-    def arm(self, connection, timer, action):
+    def arm(self, connection, timer):
         """Runs a timer of a connection."""
-        self.times.set(("sccp", timer, connection.own), self.seconds[timer], action)
+        action = self.expired[timer]
+        self.times.set(("sccp", timer, connection.own), self.seconds[timer], lambda: action(connection))
 
     def disarm(self, connection):
         """Ends all timers of a connection."""
-        for timer in ("connect", "release", "silence", "alive"):
+        for timer in self.expired:
             self.times.forget(("sccp", timer, connection.own))
 
     def watch(self, connection):
         """Something was heard on a connection: where nothing is for long, it is released (T(iar))."""
+        self.arm(connection, "silence")
 
-        def silent():
-            self.release(connection)
-            self.user.ended(connection, "is silent")
-
-        self.arm(connection, "silence", silent)
+    def silent(self, connection):
+        """Nothing was heard on a connection for long."""
+        self.release(connection)
+        self.user.ended(connection, "is silent")
 
     def keep_alive(self, connection):
         """Something was sent on a connection: where nothing is for long, the other side is told that it is there (T(ias)).
         """
+        self.arm(connection, "alive")
 
-        def test():
-            fields = {"destination": connection.other, "source": connection.own, "class": sccp.CONNECTION_ORIENTED}
-            self.put(Type.INACTIVITY_TEST, fields | {"sequencing": 0, "credit": 0})
-            self.keep_alive(connection)
+    def test(self, connection):
+        """Nothing was sent on a connection for long."""
+        fields = {"destination": connection.other, "source": connection.own, "class": sccp.CONNECTION_ORIENTED}
+        self.put(Type.INACTIVITY_TEST, fields | {"sequencing": 0, "credit": 0})
+        self.keep_alive(connection)
 
-        self.arm(connection, "alive", test)
-
-    def say_released(self, connection, times):
-        """Says that a connection has ended, so many times at most."""
-        if times == 0:
+    def say_released(self, connection):
+        """Says that a connection has ended, as many times as are left."""
+        if connection.left == 0:
             self.forget(connection)
             return
+        connection.left -= 1
         self.put_released(connection.other, connection.own, sccp.END_USER_ORIGINATED)
-        self.arm(connection, "release", lambda: self.say_released(connection, times - 1))
+        self.arm(connection, "release")
 
     def put_released(self, destination, source, cause):
         """Sends RELEASED."""

@@ -7,8 +7,10 @@ ends T3109, and starts T3111, behind which RF CHANNEL RELEASE goes. Where T3109 
 channel `off` meanwhile. Every other release goes at once.
 """
 import rsl
+from page import keeps
 
 
+@keeps("kept", "left", wired=("times", "seconds", "release", "gate", "expired"))
 class Endings:
     """The channels whose mobiles are sent away."""
 
@@ -20,6 +22,12 @@ class Endings:
         # By station and number of a channel, whether its RF CHANNEL RELEASE is kept back; and on which the mobile has left.
         self.kept = {}
         self.left = set()
+
+    def resume(self):
+        """Goes on with the times that another bridge has set."""
+        for station, number in self.kept:
+            if self.times.was_set(("ending", station.unit, number)):
+                self.start(station, number, "T3111" if (station, number) in self.left else "T3109")
 
     def begin(self, station, number):
         """CHANNEL RELEASE was sent on a channel."""

@@ -4,6 +4,7 @@ bridge: what it knows may be wrong then (bridge.py)."""
 import pathlib
 import traceback
 
+from page import keeps
 from tell import Level, Sayings
 
 # Whose octets, answers or lines are handled: a station's link, the centre's, the media gateway's, an operator's; or all else.
@@ -18,6 +19,7 @@ def met_at(error):
     return f"{pathlib.Path(frames[-1].filename).name}:{frames[-1].lineno} in {frames[-1].name}"
 
 
+@keeps("counts", wired=("sayings",))
 class Faults:
     """The faults that were met."""
 

@@ -8,6 +8,7 @@ import typing
 import faults
 import mgcp
 from mgcp import Command, Verb
+from page import keeps
 from tell import Level, Sayings
 
 # For how many seconds the number of a transaction that is over is remembered: longer than an answer may be under way (T-HIST).
@@ -16,21 +17,35 @@ REMEMBERED = 30.0
 LONGEST, MOST_AT_ONCE = 4096, 64
 
 
+@keeps()
+class Nobody(typing.NamedTuple):
+    """Nobody is told an answer."""
+
+    def __call__(self, answer):
+        pass
+
+
+@keeps()
 class Asked(typing.NamedTuple):
-    """A transaction that is under way: what is asked, in octets too, and who is told the answer."""
+    """A transaction that is under way: what is asked, in octets too, and who is told the answer, which another bridge tells where
+    that takes this one's place."""
 
     command: Command
     octets: bytes
     told: object
 
 
+@keeps(
+    *("socket", "asked", "over", "number", "is_silent", "counts"),
+    wired=("selector", "times", "settings", "seconds", "faults", "sayings"),
+)
 class Gateway:
     """A gateway, as who asks it knows it."""
 
     def __init__(self, selector, times, settings, seconds, met):
         """`settings` has its address, port and domain; `seconds` how long it may take to answer (`gateway`), and how long it
         is until it is asked again (`gateway-repeat`). `met` are the faults of the bridge that were met."""
-        self.times, self.settings, self.seconds, self.faults = times, settings, seconds, met
+        self.selector, self.times, self.settings, self.seconds, self.faults = selector, times, settings, seconds, met
         self.sayings = Sayings(times)
         self.asked = {}
         # transactions that are over: what was asked, and which connections of which endpoints were answered
@@ -45,7 +60,21 @@ class Gateway:
             self.socket.connect((settings.address, settings.port))
         except OSError as error:
             raise OSError(f"{self}: {error.strerror}") from error
-        selector.register(self.socket, selectors.EVENT_READ, lambda _mask: self.read())
+
+    def start(self):
+        """Hears what comes."""
+        self.selector.register(self.socket, selectors.EVENT_READ, lambda _mask: self.read())
+
+    def resume(self):
+        """Goes on with the times that another bridge has set."""
+        for number in self.asked:
+            if self.times.was_set(("gateway", number)):
+                self.await_answer(number)
+            if self.times.was_set(("gateway again", number)):
+                self.await_repeat(number)
+        for number in self.over:
+            if self.times.was_set(("gateway over", number)):
+                self.remember(number)
 
     def __str__(self):
         return f"the media gateway at {self.settings.address}, port {self.settings.port}"
@@ -63,8 +92,12 @@ class Gateway:
         number, octets = self.number, command.written(self.number)
         self.asked[number] = Asked(command, octets, told)
         self.counts["asked"] += 1
-        self.later("gateway", number, self.seconds["gateway"], self.give_up)
+        self.await_answer(number)
         self.send(number)
+
+    def await_answer(self, number):
+        """The answer is waited for."""
+        self.later("gateway", number, self.seconds["gateway"], self.give_up)
 
     def later(self, name, number, seconds, action):
         """Does something about a transaction later."""
@@ -89,6 +122,10 @@ class Gateway:
         except OSError:
             # nobody listens there now, or the system has no room: it is said again
             pass
+        self.await_repeat(number)
+
+    def await_repeat(self, number):
+        """It is said again, unless it is answered before."""
         self.later("gateway again", number, self.seconds["gateway-repeat"], self.send_again)
 
     def send_again(self, number):
@@ -116,6 +153,10 @@ class Gateway:
         self.times.forget(("gateway", number))
         self.times.forget(("gateway again", number))
         self.over[number] = asked.command, {(answer.endpoint, answer.connection)} if answer else set()
+        self.remember(number)
+
+    def remember(self, number):
+        """One that is over is remembered for a while."""
         self.times.set(("gateway over", number), REMEMBERED, lambda: self.over.pop(number, None))
 
     # What is answered
@@ -171,7 +212,7 @@ class Gateway:
             self.pass_over("a late answer without an endpoint or a connection")
             return
         self.say(f"made a connection that nobody uses, at {endpoint}: it is deleted")
-        self.ask(Command(Verb.DELETE, endpoint, command.call, answer.connection), lambda _answer: None)
+        self.ask(Command(Verb.DELETE, endpoint, command.call, answer.connection), Nobody())
 
     def pass_over(self, what):
         """Something came that nobody takes."""

@@ -2,6 +2,7 @@
 INFORMATION, and on the slow channel of each call, by SACCH FILLING (TS 48.058, 8.5.1 and 8.6.2)."""
 
 from barring import EMERGENCY
+from page import keeps
 from rsl import CHANNEL_NUMBER, COMMON, LAYER_3, TRX
 
 # On Abis: types, elements, and the channel number of the broadcast channel.
@@ -51,6 +52,7 @@ def carriers(arfcns, band):
     return bitmap(arfcns) if band == 900 or not arfcns else variable_bitmap(arfcns)
 
 
+@keeps("barred", wired=("plmn", "broadcast"))
 class Information:
     """The system information of a network."""
 

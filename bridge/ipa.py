@@ -3,6 +3,7 @@
 A frame is the length of its message in two octets, the number of its stream in one, and the message. On the link of a TRX
 the stream of RSL is the number of the TRX; stream FE is IPA's own.
 """
+from page import keeps
 
 # IPA's own stream, and the types of its messages.
 OWN = 0xFE
@@ -39,6 +40,7 @@ def unit_in(identity):
     return None
 
 
+@keeps("octets")
 class Frames:
     """The frames of a stream of octets, in whatever pieces these come."""
 

@@ -2,12 +2,14 @@
 
 The other side asks who this is, and knows an application server by the name that it is told; then each side acknowledges.
 """
+import enum
 import errno
 import selectors
 import socket
 
 import faults
 import ipa
+from page import keeps
 from stream import Stream
 from tell import Level, say
 
@@ -15,6 +17,26 @@ from tell import Level, say
 SCCP, NO_UNIT = 0xFD, "0/0/0"
 
 
+@keeps()
+class Step(enum.Enum):
+    """What is done once a time of the link is over, by which it is in CONFIG's timers: it is opened; it is given up, since it doesn't
+    come up; the other side is asked whether it is there; or is missed, since it doesn't answer that."""
+
+    OPEN = "retry"
+    GIVE_UP = "patience"
+    ASK = "patience of the link"
+    MISS = "patience of an answer"
+
+    @property
+    def timer(self):
+        """The name of the timer."""
+        return self.value.split()[0]
+
+
+@keeps(
+    *("socket", "stream", "step", "is_ready", "is_named", "is_left", "frames"),
+    wired=("selector", "times", "centre", "seconds", "user", "faults", "steps"),
+)
 class IpaClient:
     """The link. `user` has methods `up()`, `down()` and `heard(octets)` for the messages of SCCP; `met` are the faults of the bridge
     that were met."""
@@ -27,6 +49,25 @@ class IpaClient:
         # whether both sides have acknowledged, whether this side has said its name, and whether it is closed for good
         self.is_ready = self.is_named = self.is_left = False
         self.frames = ipa.Frames()
+        self.step = Step.OPEN
+        self.steps = {
+            Step.OPEN: self.start,
+            Step.GIVE_UP: lambda: self.lose("the centre's link doesn't come up"),
+            Step.ASK: self.ask,
+            Step.MISS: self.miss,
+        }
+
+    def join(self):
+        """Is told what comes, where another bridge had the link open."""
+        if self.stream:
+            self.hear()
+        elif self.socket:
+            self.await_opened()
+
+    def resume(self):
+        """Goes on with the times that another bridge has set."""
+        if self.times.was_set("centre"):
+            self.later(self.step)
 
     def start(self):
         """Opens it; where that fails, again after a while."""
@@ -44,15 +85,20 @@ class IpaClient:
         if status not in (0, errno.EINPROGRESS):
             self.lose(errno.errorcode.get(status, str(status)))
             return
+        self.await_opened()
+        self.later(Step.GIVE_UP)
+
+    def await_opened(self):
+        """It is told whether it is open."""
         self.selector.register(self.socket, selectors.EVENT_WRITE, lambda _mask: self.contain(self.opened))
-        self.later(self.seconds["patience"], lambda: self.lose("the centre's link doesn't come up"))
 
     def __str__(self):
         return f"A: the link to {self.centre.address}, port {self.centre.port}"
 
-    def later(self, seconds, action):
+    def later(self, step):
         """Does something of it later, in place of what was to be done."""
-        self.times.set("centre", seconds, lambda: self.contain(action))
+        self.step = step
+        self.times.set("centre", self.seconds[step.timer], lambda: self.contain(self.steps[step]))
 
     def contain(self, action):
         """Does something of it. A fault of the bridge there ends this link alone."""
@@ -76,8 +122,13 @@ class IpaClient:
             return
         self.socket.setsockopt(socket.IPPROTO_TCP, socket.TCP_NODELAY, 1)
         number = self.socket.fileno()
-        self.stream = Stream(self.selector, number, number, self.heard, lambda: self.lose("the link ended"))
-        self.stream.faulty = self.faulty
+        self.stream = Stream(self.selector, number, number)
+        self.hear()
+
+    def hear(self):
+        """Is told what comes."""
+        it = self.stream
+        it.heard, it.ended, it.faulty = self.heard, lambda: self.lose("the link ended"), self.faulty
 
     def send(self, octets):
         """Sends a message of SCCP."""
@@ -129,19 +180,20 @@ class IpaClient:
 
     def watch(self):
         """Asks whether the other side is there where nothing comes for a while; where nothing comes then, it isn't."""
+        self.later(Step.ASK)
 
-        def ask():
-            self.put(ipa.OWN, ipa.PING)
-            self.later(self.seconds["patience"], miss)
+    def ask(self):
+        """Asks whether it is there."""
+        self.put(ipa.OWN, ipa.PING)
+        self.later(Step.MISS)
 
-        def miss():
-            if self.stream and (self.stream.pauses or self.stream.readable()):
-                # what it says isn't read for a while, or lies there
-                self.watch()
-            else:
-                self.lose("the centre is silent")
-
-        self.later(self.seconds["patience"], ask)
+    def miss(self):
+        """It hasn't answered."""
+        if self.stream and (self.stream.pauses or self.stream.readable()):
+            # what it says isn't read for a while, or lies there
+            self.watch()
+        else:
+            self.lose("the centre is silent")
 
     def lose(self, why):
         """It is lost, or doesn't come up: it is tried again."""
@@ -150,7 +202,7 @@ class IpaClient:
         if not self.is_left:
             reason = f"; does osmo-stp know an as {self.centre.name!r} (centre.name)?" if was_named and not was_ready else ""
             say(f"A: no link to {self.centre.address}, port {self.centre.port}: {why}{reason}", Level.ERROR)
-            self.later(self.seconds["retry"], self.start)
+            self.later(Step.OPEN)
         if was_ready:
             self.user.down()
 

@@ -3,6 +3,7 @@ import collections
 
 import faults
 import ipa
+from page import keeps
 from tell import Level, Sayings
 
 # How many frames of a link are handled before others have their turn.
@@ -14,6 +15,7 @@ MOST_STRANGERS = 256
 PARTS = 4
 
 
+@keeps("all", "behind", wired=("relay", "times", "close", "patience", "sayings", "unread", "due"))
 class Links:
     """All links."""
 
@@ -46,7 +48,7 @@ class Links:
         self.all.pop(link, None)
         self.behind.pop(link, None)
         for name in ("link", "ping", "rival"):
-            self.times.forget((name, id(link)))
+            self.times.forget((name, link))
         self.close(link)
 
     def take_turns(self):
@@ -80,6 +82,10 @@ class Links:
             self.due.popleft()()
 
 
+@keeps(
+    *("links", "relay", "times", "stream", "address", "peer", "frames", "station", "is_ending", "is_closed"),
+    *("read", "taken", "taken_before", "silent", "asked"),
+)
 class Link:
     """A link of a TRX, which has to say who it is."""
 
@@ -87,16 +93,31 @@ class Link:
         """`address` is where it comes from, `peer` that with its port."""
         self.links, self.relay, self.times = links, links.relay, links.times
         self.stream, self.address, self.peer = stream, address, peer
-        stream.heard, stream.ended, stream.faulty = self.heard, self.ended, self.faulty
+        self.join()
         self.frames = ipa.Frames()
         self.station = None
         # whether it is at its end, and whether that is done with
         self.is_ending = self.is_closed = False
-        # how many octets and how many frames came, and how many times in a row it was pinged and nothing came
-        self.read = self.taken = 0
+        # how many octets and how many frames came; how many frames when it was given a while last; and how many times in a row it
+        # was pinged and nothing came
+        self.read = self.taken = self.taken_before = 0
         self.silent = 0
-        # what waits for the answer to a ping
-        self.asked = None
+        # another link that says it is this station, and waits for the answer to a ping
+        self.asked: Link | None = None
+
+    def join(self):
+        """Is told what comes."""
+        it = self.stream
+        it.heard, it.ended, it.faulty = self.heard, self.ended, self.faulty
+
+    def resume(self):
+        """Goes on with the times that another bridge has set."""
+        if self.times.was_set(("link", self)):
+            self.await_frame()
+        if self.times.was_set(("ping", self)):
+            self.await_ping()
+        if self.times.was_set(("rival", self)):
+            self.await_answer()
 
     def begin(self):
         """Asks the other side who it is."""
@@ -123,7 +144,7 @@ class Link:
 
     def later(self, name, seconds, action, gate=None):
         """Does something of it later."""
-        self.times.set((name, id(self)), seconds, lambda: self.contain(action), gate)
+        self.times.set((name, self), seconds, lambda: self.contain(action), gate)
 
     def close(self):
         """Closes it. What it sent behind that isn't heard."""
@@ -188,7 +209,7 @@ class Link:
 
     def watch_frame(self):
         """A frame that has begun has to end in time."""
-        name = ("link", id(self))
+        name = ("link", self)
         if not self.frames.is_torn():
             self.times.forget(name)
         elif not self.times.is_set(name):
@@ -236,45 +257,53 @@ class Link:
     def rival(self, station):
         """Another link is this station already: it is asked whether it is there still."""
         self.stream.pause("rival", True)
-        self.times.forget(("link", id(self)))
+        self.times.forget(("link", self))
+        station.link.ask(self)
 
-        def decide(is_there):
-            if self.is_closed:
-                return
-            if is_there:
-                self.refuse(f"unit {station.unit}: another link is this unit, and is there")
-                return
-            self.stream.pause("rival", False)
-            if station.link:
-                station.link.fail("another link says that it is this unit, and this one doesn't answer")
-            self.become(station)
-            # what it said behind that has its turn
-            self.links.behind[self] = None
+    def decide(self, station, is_there):
+        """Another link that is this station has answered, or hasn't."""
+        if self.is_closed:
+            return
+        if is_there:
+            self.refuse(f"unit {station.unit}: another link is this unit, and is there")
+            return
+        self.stream.pause("rival", False)
+        if station.link:
+            station.link.fail("another link says that it is this unit, and this one doesn't answer")
+        self.become(station)
+        # what it said behind that has its turn
+        self.links.behind[self] = None
 
-        station.link.ask(lambda is_there: self.contain(lambda: decide(is_there)))
-
-    def ask(self, decide):
-        """Asks the other side whether it is there; what is to be decided by that is told before long."""
-        self.asked = decide
+    def ask(self, rival):
+        """Asks the other side whether it is there; another link that decides by that is told before long."""
+        self.asked = rival
         self.send(ipa.OWN, ipa.PING)
+        self.await_answer()
+
+    def await_answer(self):
+        """The other side has a while to answer."""
         self.later("rival", self.links.patience / PARTS, lambda: self.answer_ask(False), self.links.once_read)
 
     def answer_ask(self, is_there):
         """The other side has answered, or hasn't in time."""
-        self.times.forget(("rival", id(self)))
-        decide, self.asked = self.asked, None
-        if decide:
-            decide(is_there)
+        self.times.forget(("rival", self))
+        rival, self.asked = self.asked, None
+        if rival:
+            rival.contain(lambda: rival.decide(self.station, is_there))
 
     def become(self, station):
         """It is the link of a station from now on."""
-        self.times.forget(("link", id(self)))
+        self.times.forget(("link", self))
         self.station = station
         self.relay.come(station, self)
         self.send(ipa.OWN, ipa.ACKNOWLEDGEMENT)
-        self.later("ping", self.links.patience / PARTS, self.ping)
+        self.await_ping()
 
     # Whether it is there
+
+    def await_ping(self):
+        """It is pinged before long."""
+        self.later("ping", self.links.patience / PARTS, self.ping)
 
     def ping(self):
         """Nothing may have come for a while: the other side is asked whether it is there. Where that was in vain for as long as
@@ -287,21 +316,25 @@ class Link:
         elif not self.is_unread():
             self.fail(f"nothing came for {self.links.patience:g} seconds, no answer to a ping either")
         if not self.is_closed:
-            self.later("ping", self.links.patience / PARTS, self.ping)
+            self.await_ping()
 
     def be_patient(self):
         """The other side has a while to end a frame, its first in which it says who it is. What lies unread then counts."""
-        taken = self.taken
+        self.taken_before = self.taken
+        self.await_frame()
+
+    def await_frame(self):
+        """That while ends."""
 
         def once_read(action):
             self.links.once_read(action, [self])
 
-        self.later("link", self.links.patience, lambda: self.lose_patience(taken), once_read)
+        self.later("link", self.links.patience, self.lose_patience, once_read)
 
-    def lose_patience(self, taken):
+    def lose_patience(self):
         """The other side took too long. Where nothing was read from it meanwhile, or it is another frame that isn't whole, it
         has as long again."""
-        if self.stream.pauses or self.taken > taken:
+        if self.stream.pauses or self.taken > self.taken_before:
             self.be_patient()
         elif self.station:
             self.fail(f"a frame isn't whole after {self.links.patience:g} seconds")

@@ -21,13 +21,14 @@ def stamp():
 class Log:
     """A log at a path."""
 
-    def __init__(self, path, times):
-        """`times` are told when a full disk is to be tried again."""
+    def __init__(self, path, times, waiting=b"", missing=0):
+        """`times` are told when a full disk is to be tried again. What was waiting for room in another bridge, and how many lines were
+        missing, stands in front."""
         self.path, self.times = path, times
         self.file = self.opened()
         # what isn't written yet, for want of room, and how many lines there wasn't even room for here
-        self.waiting = bytearray()
-        self.missing = 0
+        self.waiting = bytearray(waiting)
+        self.missing = missing
         self.is_full = False
         self.go_on()
 

@@ -8,12 +8,14 @@ again: the message is given again. Where there is no centre, such calls can be c
 import dataclasses
 
 import rsl
+from page import keeps
 from tell import Level, Since, say
 
 # The type of CLEAR REQUEST (TS 48.008 clause 3.2.2.1), behind a discriminator, 00, and a length.
 CLEAR_REQUEST = 0x22
 
 
+@keeps()
 @dataclasses.dataclass
 class Lost:
     """A call whose channel is lost."""
@@ -23,6 +25,7 @@ class Lost:
     asked: int = 0
 
 
+@keeps("lost", wired=("relay", "times", "seconds", "calls"))
 class LostCalls:
     """The calls whose channel is lost."""
 
@@ -32,6 +35,14 @@ class LostCalls:
         self.relay = relay
         self.times, self.seconds, self.calls = relay.times, relay.seconds, relay.calls
         self.lost = {}
+
+    def resume(self):
+        """Goes on with the times that another bridge has set."""
+        for number in self.lost:
+            if self.times.was_set(("clear request", number)):
+                self.run_repeat(number)
+            if self.times.was_set(("clear", number)):
+                self.run_clear(number)
 
     def failed(self, channel):
         """The controller was given a channel's failure: where a call is on it that moves, that is kept."""
@@ -60,9 +71,17 @@ class LostCalls:
             return
         lost = self.lost.setdefault(number, Lost())
         lost.asked += 1
-        self.times.set(("clear request", number), self.seconds["repeat"], lambda: self.tell_again(number))
+        self.run_repeat(number)
         if self.seconds["clear-lost"] is not None and lost.asked == 1:
-            self.times.set(("clear", number), self.seconds["clear-lost"], lambda: self.clear(number))
+            self.run_clear(number)
+
+    def run_repeat(self, number):
+        """An answer to CLEAR REQUEST is waited for."""
+        self.times.set(("clear request", number), self.seconds["repeat"], lambda: self.tell_again(number))
+
+    def run_clear(self, number):
+        """It is waited until somebody clears the call."""
+        self.times.set(("clear", number), self.seconds["clear-lost"], lambda: self.clear(number))
 
     def tell_again(self, number):
         """Gives the controller the failure of a call's channel, by which it sends CLEAR REQUEST."""

@@ -2,6 +2,7 @@
 as it does with its link. To the bridge it is both the link (ipa_client.py) and the connections (connections.py)."""
 import os
 import pathlib
+import shutil
 import subprocess
 import tempfile
 import typing
@@ -11,7 +12,8 @@ import faults
 import sccp
 from child import begin
 from connections import Connection, State
-from stream import Lines, Stream
+from page import keeps
+from stream import Stream
 from tell import Level, Sayings, say, shown
 
 LIBRARIES = ("-losmo-sigtran", "-losmocore", "-ltalloc")
@@ -26,16 +28,23 @@ def build(folder, *words):
     return program
 
 
+@keeps(
+    *("folder", "program", "process", "stream", "errors", "is_left", "is_up", "known", "next"),
+    wired=("selector", "times", "centre", "seconds", "user", "faults", "sayings", "takers"),
+)
 class M3ua:
     """The link and its connections. `user` has the methods that both tell; `met` are the faults of the bridge that were met."""
 
     def __init__(self, selector, times, centre, seconds, user, met):
         self.selector, self.times, self.centre, self.seconds, self.user = selector, times, centre, seconds, user
         self.faults = met
-        self.folder = tempfile.TemporaryDirectory()
-        self.program: pathlib.Path | None = None
+        # where the program is, once it is built
+        self.folder: str | None = None
+        self.program: str | None = None
         self.process: subprocess.Popen | None = None
+        # its lines, and what it says on standard error
         self.stream: Stream | None = None
+        self.errors: Stream | None = None
         self.is_left = self.is_up = False
         self.sayings = Sayings(times)
         self.known, self.next = {}, FIRST
@@ -50,31 +59,63 @@ class M3ua:
             "ended": self.ended,
         }
 
+    def resume(self):
+        """Goes on with the times that another bridge has set."""
+        if self.times.was_set("centre"):
+            if self.process:
+                self.await_up()
+            else:
+                self.begin_later()
+        for connection in self.known.values():
+            if self.times.was_set(("m3ua", connection.own)):
+                self.await_answer(connection)
+
     # The link
+
+    def build(self):
+        """Builds the program, in a folder of its own."""
+        self.folder = tempfile.mkdtemp(prefix="gofnild-m3ua-")
+        try:
+            self.program = str(build(self.folder))
+        except OSError:
+            self.leave()
+            raise
 
     def start(self):
         """Begins the program, which opens the link; where it can't be begun, again after a while."""
-        self.program = self.program or build(self.folder.name)
+        if not self.program:
+            self.build()
         it = self.centre
         try:
             self.process, writes, reads, errors = begin([self.program, it.address, it.port, it.own, it.peer])
         except OSError as error:
             self.lose(str(error))
             return
-        lines = Lines(self.heard)
-        self.stream = Stream(self.selector, reads, writes, lines.add, lambda: self.lose("the link ended"))
-        self.stream.faulty = self.faulty
-        self.hear_errors(errors)
+        self.stream, self.errors = Stream(self.selector, reads, writes), Stream(self.selector, errors)
+        self.join()
+        self.await_up()
+
+    def join(self):
+        """Is told what comes of the program, where that runs."""
+        if it := self.stream:
+            it.hear_lines(self.heard)
+            it.ended, it.faulty = lambda: self.lose("the link ended"), self.faulty
+        if errors := self.errors:
+            errors.hear_lines(self.hear_error)
+            errors.ended = errors.close
+
+    def await_up(self):
+        """The link has to come up in time."""
         self.times.set("centre", self.seconds["patience"], lambda: self.lose("the centre's link doesn't come up"))
 
-    def hear_errors(self, reads):
+    def begin_later(self):
+        """The program is begun again after a while."""
+        self.times.set("centre", self.seconds["retry"], self.start)
+
+    def hear_error(self, line):
         """What the program and its library say on standard error is said as what the bridge itself says."""
-
-        def hear(line):
-            if line.strip():
-                self.sayings.say("A", f"A: {shown(line)}", Level.WARNING)
-
-        stream: Stream = Stream(self.selector, reads, None, Lines(hear).add, lambda: stream.close())
+        if line.strip():
+            self.sayings.say("A", f"A: {shown(line)}", Level.WARNING)
 
     def faulty(self, error):
         """A fault of the bridge was met as a line of the program was handled: that is this link's end alone."""
@@ -87,7 +128,7 @@ class M3ua:
         self.close()
         if not self.is_left:
             say(f"A: no link to {self.centre.address}, port {self.centre.port}: {why}", Level.ERROR)
-            self.times.set("centre", self.seconds["retry"], self.start)
+            self.begin_later()
         if was_up:
             self.user.down()
 
@@ -109,7 +150,8 @@ class M3ua:
         """Ends it for good."""
         self.is_left = True
         self.close()
-        self.folder.cleanup()
+        if self.folder:
+            shutil.rmtree(self.folder, ignore_errors=True)
 
     def put(self, line):
         """Gives the program a line."""
@@ -148,8 +190,12 @@ class M3ua:
         else:
             self.put(f"connect {connection.own} -")
             connection.waiting.append(octets)
-        self.times.set(("m3ua", connection.own), self.seconds["connect"], lambda: self.unanswered(connection))
+        self.await_answer(connection)
         return connection
+
+    def await_answer(self, connection):
+        """The other side has to answer in time."""
+        self.times.set(("m3ua", connection.own), self.seconds["connect"], lambda: self.unanswered(connection))
 
     def unanswered(self, connection):
         """The other side doesn't answer: if it does yet, that is released."""

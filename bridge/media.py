@@ -5,8 +5,9 @@ connection too, and the gateway is told to speak with that one once the mobile i
 What is to be and what the gateway was told are compared after each step; of an endpoint one thing is asked at a time. So
 nothing is in the wrong order, however long an answer takes.
 """
+from __future__ import annotations
+
 import enum
-import itertools
 import secrets
 import typing
 
@@ -14,10 +15,13 @@ import ipacc
 import rsl
 from bssmap import Cause
 from mgcp import Command, Verb
-from rtp import codec_of
+from page import keeps
+from rtp import Address, codec_of
 from tell import Level, say
 
 if typing.TYPE_CHECKING:
+    from arrivals import Arrivals
+    from assignment import Assignments
     from gateway import Gateway
 
 # The stages of an attempt in which its target is on (docs/BOOK.md).
@@ -26,6 +30,7 @@ TARGET_ON = ("confirmed", "commanded", "detected")
 HANDOVER_COMMAND = b"\x06\x2b"
 
 
+@keeps()
 class Stage(enum.Enum):
     """How far a station is with a channel's speech: asked where it has it, has said so, was told where the gateway has it, and
     has taken that."""
@@ -45,6 +50,7 @@ AWAITED = {
 }
 
 
+@keeps("channel", "codec", "stage", "connection", "local")
 class Leg:
     """A channel's speech at its station: the connection's number, and where the station has it."""
 
@@ -54,6 +60,7 @@ class Leg:
         self.connection = self.local = None
 
 
+@keeps("connection", "local", "told", "wanted")
 class Side:
     """A connection of an endpoint: where the gateway has it, where the gateway was told that the other side has it, and where
     that has it now."""
@@ -62,6 +69,9 @@ class Side:
         self.connection = self.local = self.told = self.wanted = None
 
 
+@keeps(
+    *("talk", "name", "endpoint", "station", "centre", "legs", "at", "is_asking", "is_there", "is_over", "waiter", "held"),
+)
 class Speech:
     """The speech of a call, under a name that no other has."""
 
@@ -74,40 +84,74 @@ class Speech:
         # whether the gateway was asked something and hasn't answered; whether there has been speech; whether the call goes on
         # without, or has ended
         self.is_asking = self.is_there = self.is_over = False
-        # who waits until there is speech, and is told the cause where there can't be any
-        self.ready = self.failed = None
+        # who waits until there is speech: by `joined` he is told that there is, by `fail` with a cause that there can't be any
+        self.waiter: Assignments | Arrivals | None = None
         # a HANDOVER COMMAND that waits until the target has speech
         self.held = None
 
-    def waiters(self):
-        """Who waits; they are told once."""
-        found = self.ready, self.failed
-        self.ready = self.failed = None
+    def who_waits(self):
+        """Who waits, if anybody does; he is told once."""
+        found, self.waiter = self.waiter, None
         return found
 
 
+@keeps()
+class SideTold(typing.NamedTuple):
+    """Is told what the gateway answers about a side of a call's speech; `remote` is where that knows the other side then."""
+
+    media: Media
+    speech: Speech
+    side: Side
+    remote: Address | None
+
+    def __call__(self, answer):
+        self.media.answered(self.speech, self.side, self.remote, answer)
+
+
+@keeps()
+class DeletionTold(typing.NamedTuple):
+    """Is told what the gateway answers where an endpoint is to be deleted."""
+
+    media: Media
+    endpoint: str
+
+    def __call__(self, answer):
+        self.media.deleted(self.endpoint, answer)
+
+
+@keeps("run", "last", "all", "legs", wired=("relay", "times", "seconds", "gateway"))
 class Media:
     """The speech of all calls. `relay` has stations and calls; whoever makes it gives it a `gateway`."""
 
     def __init__(self, relay, times, seconds):
         self.relay, self.times, self.seconds = relay, times, seconds
         self.gateway: Gateway
-        # names: of this run of the bridge, and of the call
-        self.run, self.numbers = secrets.token_hex(6), itertools.count(1)
+        # names: of this run of the bridge, and the last one of a call
+        self.run, self.last = secrets.token_hex(6), 0
         self.all = set()
         self.legs = {}
 
+    def resume(self):
+        """Goes on with the times that another bridge has set."""
+        for speech in self.all:
+            if self.times.was_set(("audit", speech.name)):
+                self.await_audit(speech)
+        for channel, speech in self.legs.items():
+            if self.times.was_set(("speech", channel)):
+                self.await_answer(speech, speech.legs[channel])
+
     # What is asked
 
-    def begin(self, talk, centre, ready, failed):
-        """A call is to have speech, which the centre has there. `ready` is called once there is; `failed` is given a cause
-        where there can't be. A call that has speech already goes on with it, by the new address."""
+    def begin(self, talk, centre, waiter):
+        """A call is to have speech, which the centre has there. `waiter` is told once there is, or that there can't be (Speech). A
+        call that has speech already goes on with it, by the new address."""
         if talk.speech is None:
-            talk.speech = Speech(talk, f"{self.run}{next(self.numbers):x}")
+            self.last += 1
+            talk.speech = Speech(talk, f"{self.run}{self.last:x}")
             self.all.add(talk.speech)
         speech = talk.speech
         speech.centre.wanted = centre
-        speech.ready, speech.failed = ready, failed
+        speech.waiter = waiter
         self.follow(talk)
 
     def follow(self, talk):
@@ -140,7 +184,7 @@ class Media:
             self.forget_leg(speech, channel)
         speech.is_over, speech.held = True, None
         self.times.forget(("audit", speech.name))
-        speech.waiters()
+        speech.who_waits()
         self.go_on(speech)
 
     def drop(self, talk):
@@ -188,9 +232,13 @@ class Media:
         """A call has the speech that it is to have. Now and then the gateway is asked about that: one that began anew doesn't
         know the connection, of which nobody would hear otherwise."""
         speech.is_there = True
+        self.await_audit(speech)
+        if waiter := speech.who_waits():
+            waiter.joined(speech.talk)
+
+    def await_audit(self, speech):
+        """The gateway is asked after a while."""
         self.times.set(("audit", speech.name), self.seconds["gateway-audit"], lambda: self.audit(speech))
-        if ready := speech.waiters()[0]:
-            ready()
 
     def audit(self, speech):
         """Looks whether the gateway has a call's speech still, by a command that changes nothing."""
@@ -208,7 +256,7 @@ class Media:
     def put(self, speech, side, command, remote):
         """Asks the gateway something of a side; `remote` is where it knows the other side then."""
         speech.is_asking = True
-        self.gateway.ask(command, lambda answer: self.answered(speech, side, remote, answer))
+        self.gateway.ask(command, SideTold(self, speech, side, remote))
 
     def answered(self, speech, side, remote, answer):
         """The gateway has answered, or hasn't."""
@@ -238,8 +286,8 @@ class Media:
         is_lost = speech.is_there and side is speech.station
         for it in (speech.centre, speech.station):
             it.wanted = it.told
-        if failed := speech.waiters()[1]:
-            failed(cause)
+        if waiter := speech.who_waits():
+            waiter.fail(speech.talk, cause)
         if is_lost and not speech.is_over:
             say(f"{speech.talk}: its speech is lost", Level.WARNING)
             self.relay.a_side.ask_to_clear(speech.talk, Cause.EQUIPMENT_FAILURE)
@@ -249,7 +297,7 @@ class Media:
         self.all.discard(speech)
         if speech.endpoint:
             endpoint, speech.endpoint = speech.endpoint, None
-            self.gateway.ask(Command(Verb.DELETE, endpoint, speech.name), lambda answer: self.deleted(endpoint, answer))
+            self.gateway.ask(Command(Verb.DELETE, endpoint, speech.name), DeletionTold(self, endpoint))
 
     def deleted(self, endpoint, answer):
         """The gateway has deleted an endpoint, or hasn't answered."""

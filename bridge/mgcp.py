@@ -5,6 +5,7 @@ import re
 import socket
 import typing
 
+from page import keeps
 from rtp import Address, Codec
 
 # The first line of an answer: its code and the transaction that it is about.
@@ -17,6 +18,7 @@ PORT = re.compile(r"m=audio (\d{1,5}) .*")
 MOST = 999_999_999
 
 
+@keeps()
 class Verb(enum.Enum):
     """What is asked: to create, to modify, and to delete a connection."""
 
@@ -29,6 +31,7 @@ class Unreadable(Exception):
     """Octets are no answer."""
 
 
+@keeps()
 class Command(typing.NamedTuple):
     """What is asked: at which endpoint, of which call, about which connection (None: one that is made, or all of them); how
     speech is coded, and where the other side has it."""

@@ -18,6 +18,7 @@ from information import Information
 from link_layer import SHORT_LINK
 from media import Media
 from operators import HELP, Operator
+from page import keeps
 from paging import Paging
 from relay import Relay
 from reports import report_in
@@ -48,6 +49,13 @@ SPEECH_MOVES = ("confirm", "command", "detect", "complete", "undo", "clear", "le
 NUMBER = re.compile(rb"0*(\d{1,5})")
 
 
+@keeps(
+    "passed",
+    wired=(
+        *("config", "plmn", "talks", "information", "barring", "a_side", "air", "paging", "media", "assignments", "ciphering"),
+        "arrivals",
+    ),
+)
 class NetworkRelay(Relay):
     """Stations on one side, the centre on the other, and the controller between them."""
 
@@ -65,6 +73,18 @@ class NetworkRelay(Relay):
         self.ciphering, self.arrivals = Ciphering(self), Arrivals(self)
         # what the centre sent that nobody takes
         self.passed: collections.Counter = collections.Counter()
+
+    def parts(self):
+        """Its parts that another bridge takes over."""
+        own = ("talks", "information", "a_side", "air", "paging", "media", "assignments", "arrivals")
+        air = {name: getattr(self.air, name) for name in ("short", "admission", "rejections")}
+        return {**super().parts(), **{name: getattr(self, name) for name in own}, **air, "gateway": self.media.gateway}
+
+    def resume(self):
+        """Goes on with the times that another bridge has set."""
+        super().resume()
+        for it in (self.a_side, self.air, self.paging, self.media, self.media.gateway, self.assignments):
+            it.resume()
 
     def count(self, what):
         """Counts something of the centre that nobody takes; the first of a kind is told."""

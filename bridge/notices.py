@@ -2,12 +2,14 @@
 cell's."""
 import collections
 
+from page import keeps
 from tell import Level, say
 
 # For how many seconds nothing of a cell or a station is told again.
 QUIET = 60.0
 
 
+@keeps("untold", "swaps", wired=("times",))
 class Notices:
     """What was noticed."""
 
@@ -15,6 +17,18 @@ class Notices:
         self.times = times
         # by cell how often no channel was free since that was told
         self.untold: collections.Counter = collections.Counter()
+        # the units that were told to be those of other cells
+        self.swaps: set[str] = set()
+
+    def resume(self):
+        """Goes on with the times that another bridge has set."""
+        for name in [*(("full", cell) for cell in self.untold), *(("swapped", unit) for unit in self.swaps)]:
+            if self.times.was_set(name):
+                self.be_quiet(name)
+
+    def be_quiet(self, name):
+        """Nothing more is told of something for a while."""
+        self.times.set(name, QUIET, lambda: None)
 
     def full(self, cell):
         """A channel of a cell was asked for, and none of the rate was free."""
@@ -24,7 +38,7 @@ class Notices:
         more = f"; {self.untold[cell]} times more since that was told last" if self.untold[cell] else ""
         say(f"cell {cell} is full: a channel was asked for, and none of the rate is free{more}", Level.WARNING)
         self.untold[cell] = 0
-        self.times.set(("full", cell), QUIET, lambda: None)
+        self.be_quiet(("full", cell))
 
     def swapped(self, station, carrier, colours):
         """A mobile on a station hears the carrier and the colours of this station's own cell beside it: two units may be swapped."""
@@ -33,4 +47,5 @@ class Notices:
         heard = f"carrier {carrier} with colours {colours >> 3}/{colours & 7}"
         why = "is its unit that of another cell?"
         say(f"{station}: a telephone on it hears {heard}, which is this cell, as a neighbour: {why}", Level.WARNING)
-        self.times.set(("swapped", station.unit), QUIET, lambda: None)
+        self.swaps.add(station.unit)
+        self.be_quiet(("swapped", station.unit))

@@ -1,14 +1,16 @@
 """Operators: what they may ask, who is told what came of it, and whose turn it is. Stations, the centre and timers come first in
 each turn of the loop: operators share what is left."""
 import collections
+import functools
 import os
 import re
 import socket
 import struct
 
 import faults
+from page import keeps
 from stream import Lines, Stream
-from tell import plain, show, shown
+from tell import Level, plain, show, shown
 
 # Keywords of what is simulated: none of it is there.
 SIMULATED = (b"report", b"answer", b"sim", b"refuse", b"hold", b"let", b"mobile", b"double", b"cut", b"restart",
@@ -19,7 +21,7 @@ QUIET = 0.5
 MOST_AT_ONCE = 16
 # Lines that the controller isn't asked: views, of which each may have thousands of lines, and others.
 VIEWS = (b"help", b"stations", b"calls", b"network")
-OWN = (*VIEWS, b"upgrade", b"reopen", b"watch", b"bar", b"unbar", *SIMULATED)
+OWN = (*VIEWS, b"upgrade", b"bridge", b"reopen", b"watch", b"bar", b"unbar", *SIMULATED)
 # How many lines of an input may come before it is known of which call it is.
 MOST_LINES = 100
 # How many digits the number of a call may have.
@@ -30,6 +32,7 @@ calls: the channels in use: of which call and since when, how stations have them
 watch: from here on all that the controller prints; watch CALL: what comes of this call; watch off: no more of that
 summary: what came so far, counted in all and for each cell: calls, attempts at handover and their ends, messages, faults
 upgrade PROGRAM: the controller ends, and PROGRAM goes on with its calls, if it does so on a copy of the journal
+bridge upgrade [PROGRAM]: PROGRAM, or the program of now, goes on as the bridge, if it takes what this one knows
 reopen: the log is opened anew, as after it was moved away
 help: this
 open CALL CELL TRX TN: a call begins on a channel, TN as 3, or 3/0 and 3/1 for halves of a timeslot
@@ -43,6 +46,7 @@ a CALL HEX: a message of the switching centre about a call
 #: nothing""".split("\n")
 
 
+@keeps("waiting", wired=("relay",))
 class Turns:
     """The lines of all operators, which wait for their turns."""
 
@@ -90,6 +94,7 @@ def is_own(line):
     return not word or word.startswith(b"#") or word in OWN
 
 
+@keeps("relay", "name", "stream")
 class Operator:
     """Somebody who gives lines: at standard input, or at the control socket."""
 
@@ -99,7 +104,7 @@ class Operator:
     def __init__(self, relay, name):
         """Whoever makes one that asks gives it a `stream`."""
         self.relay, self.name = relay, name
-        self.stream: Stream
+        self.stream: Stream | None = None
 
     def __str__(self):
         return self.name
@@ -128,6 +133,8 @@ class Operator:
             self.tell(*self.relay.again.away(), *(station.known() for station in self.relay.stations.values()))
         elif words == [b"calls"]:
             self.tell(*self.relay.views.channels())
+        elif words[:2] == [b"bridge", b"upgrade"]:
+            self.relay.succession.ask(self, os.fsdecode(line.strip()[len(b"bridge") :].strip()[len(b"upgrade") :].strip()))
         elif words[0] == b"upgrade":
             self.relay.again.upgrade(self, os.fsdecode(line.strip()[len(words[0]) :].strip()))
         elif words == [b"reopen"]:
@@ -161,20 +168,26 @@ class Operator:
         """Hears what the controller prints of his line, which is shown already."""
 
 
+@functools.lru_cache
+def names_of(call):
+    """How the lines look that name a call."""
+    return re.compile(rb"(in \w+|out a|event \w+|event .* -> owned) %d\b(?!/)" % call)
+
+
+@keeps("call", "lines", "is_named")
 class Watched:
     """What comes of a call: all lines of each input of which one names it."""
 
     def __init__(self, call):
         """`call` is its number."""
-        self.names = re.compile(rb"(in \w+|out a|event \w+|event .* -> owned) %d\b(?!/)" % call)
-        self.lines = []
+        self.call, self.lines = call, []
         self.is_named = False
 
     def see(self, line):
         """Which lines are of the call, now that another has come."""
         if line.startswith((b"in ", b"line ", b"end ", b"summary ")):
             self.lines, self.is_named = [], False
-        self.is_named = self.is_named or (self.names.match(line) and not line.startswith(b"in abis")) is True
+        self.is_named = self.is_named or (names_of(self.call).match(line) and not line.startswith(b"in abis")) is True
         self.lines = [*self.lines[-MOST_LINES:], line]
         if not self.is_named:
             return []
@@ -182,23 +195,59 @@ class Watched:
         return lines
 
 
+@keeps("bridge")
+class Standard(Operator):
+    """The operator at standard input. That is left blocking, since others may have it too."""
+
+    def __init__(self, bridge):
+        super().__init__(bridge.relay, "operator at standard input")
+        self.bridge = bridge
+        self.stream = Stream(bridge.selector, 0)
+        self.stream.is_operators = True
+        self.join()
+
+    def join(self):
+        """Is told what comes."""
+        it = self.stream
+        it.hear_lines(lambda line: self.bridge.turns.add(self, line))
+        it.ended, it.faulty = self.ended, self.faulty
+
+    def ended(self):
+        """Nothing more comes: the bridge ends, unless operators may come to the control socket."""
+        if rest := self.stream.lines.end():
+            self.refuse_torn(rest)
+        self.stream.leave()
+        if not self.bridge.control and not self.bridge.is_ending:
+            self.bridge.end("standard input has ended", Level.NOTICE)
+
+
+@keeps("bridge", "connection", "is_leaving", "watched")
 class Client(Operator):
     """An operator at the control socket."""
 
-    count = 0
-
-    def __init__(self, bridge, connection):
-        Client.count += 1
+    def __init__(self, bridge, connection, number):
+        """`number` is how many operators have come by now."""
         user = struct.unpack("3i", connection.getsockopt(socket.SOL_SOCKET, socket.SO_PEERCRED, 12))[1]
-        super().__init__(bridge.relay, f"operator {Client.count}, user {user}")
+        super().__init__(bridge.relay, f"operator {number}, user {user}")
         self.bridge, self.connection = bridge, connection
         self.is_leaving = False
         self.watched = None
         connection.setblocking(False)
         number = connection.fileno()
-        lines = Lines(lambda line: bridge.turns.add(self, line))
-        self.stream = Stream(bridge.selector, number, number, lines.add, lambda: self.ended(lines.end()))
-        self.stream.is_operators, self.stream.faulty = True, self.faulty
+        self.stream = Stream(bridge.selector, number, number)
+        self.stream.is_operators = True
+        self.join()
+
+    def join(self):
+        """Is told what comes."""
+        it = self.stream
+        it.hear_lines(lambda line: self.bridge.turns.add(self, line))
+        it.ended, it.faulty = lambda: self.ended(it.lines.end()), self.faulty
+
+    def resume(self):
+        """Goes on with the times that another bridge has set."""
+        if self.bridge.times.was_set(("client", self)):
+            self.leave_soon()
 
     def faulty(self, error):
         """A fault of the bridge was met as he was read, or written to: that is his end."""
@@ -250,7 +299,7 @@ class Client(Operator):
 
     def leave_soon(self):
         """Leaves once no more answers come."""
-        self.bridge.times.set(("client", id(self)), QUIET, self.leave)
+        self.bridge.times.set(("client", self), QUIET, self.leave)
 
     def leave(self):
         """Leaves, where all is answered."""

@@ -12,6 +12,8 @@ def seconds_of(word):
 
 def add_common(parser):
     """Has a parser take them."""
+    parser.add_argument("--check", action="store_true")
+    parser.add_argument("--takes-over", metavar="PAGE")
     parser.add_argument("--log")
     parser.add_argument("--control")
     parser.add_argument("--again", type=int, default=0)

@@ -5,8 +5,10 @@ import enum
 
 import bssmap
 from bssmap import Cause, Type
+from page import keeps
 
 
+@keeps()
 class State(enum.Enum):
     """How a call's last HANDOVER REQUIRED is."""
 
@@ -20,6 +22,7 @@ class State(enum.Enum):
     FAILED = enum.auto()
 
 
+@keeps("state", "waiting")
 class Outgoing:
     """What a call awaits of the centre, and the HANDOVER REQUIRED that waits for that."""
 
@@ -33,6 +36,12 @@ class OutgoingCalls:
 
     def __init__(self, relay, times, seconds):
         self.relay, self.times, self.seconds = relay, times, seconds
+
+    def resume(self):
+        """Goes on with the times that another bridge has set."""
+        for call in self.relay.talks.by_number.values():
+            if self.times.was_set(("outgoing", call.number)):
+                self.run_late(call, 0)
 
     def keeps(self, call, kind, octets):
         """Whether a message that the controller says is kept back; what it says of handovers is followed."""
@@ -85,11 +94,15 @@ class OutgoingCalls:
     def await_answer(self, call, state, seconds):
         """An answer may come for so long."""
         call.outgoing.state = state
-        self.times.set(("late", call.number), seconds, lambda: self.be_free(call), self.relay.once_read)
+        self.run_late(call, seconds)
+
+    def run_late(self, call, seconds):
+        """Behind that time no answer is awaited."""
+        self.times.set(("outgoing", call.number), seconds, lambda: self.be_free(call), self.relay.once_read)
 
     def be_free(self, call):
         """No answer is awaited any more: what waits for that is asked."""
-        self.times.forget(("late", call.number))
+        self.times.forget(("outgoing", call.number))
         call.outgoing.state = State.NONE
         waiting, call.outgoing.waiting = call.outgoing.waiting, None
         if waiting:
@@ -98,5 +111,5 @@ class OutgoingCalls:
 
     def forget(self, call):
         """The call is over."""
-        self.times.forget(("late", call.number))
+        self.times.forget(("outgoing", call.number))
         call.outgoing.state, call.outgoing.waiting = State.NONE, None

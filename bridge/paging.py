@@ -3,6 +3,7 @@ names, in the blocks to which it listens, until it answers or was called often e
 import collections
 
 import elements
+from page import keeps
 from rsl import CHANNEL_NUMBER, COMMON
 
 # PAGING COMMAND (TS 48.058, 8.5.5), the channel number of what it goes on, and its elements: paging group, identity of the
@@ -66,6 +67,7 @@ def identity_in(layer_3):
     return identity if len(identity) == layer_3[at] else None
 
 
+@keeps("imsi", "tmsi", "cells", "message", "times")
 class Sought:
     """A mobile that is looked for: its IMSI, its TMSI if it has one, the cells, and what is sent there how many times yet."""
 
@@ -77,6 +79,7 @@ class Sought:
         return f"IMSI {self.imsi}" + (f", TMSI {self.tmsi.hex()}" if self.tmsi else "")
 
 
+@keeps("by_imsi", "by_tmsi", "counts", wired=("relay", "times", "seconds", "config"))
 class Paging:
     """The mobiles that are looked for. `relay` has the stations."""
 
@@ -84,6 +87,12 @@ class Paging:
         self.relay, self.times, self.seconds, self.config = relay, times, seconds, config
         self.by_imsi, self.by_tmsi = {}, {}
         self.counts: collections.Counter = collections.Counter()
+
+    def resume(self):
+        """Goes on with the times that another bridge has set."""
+        for sought in self.by_imsi.values():
+            if self.times.was_set(("t3113", sought.imsi)):
+                self.run_t3113(sought)
 
     def asked(self, octets):
         """PAGING came. Where the mobile is looked for already, that begins anew."""
@@ -120,6 +129,10 @@ class Paging:
         for cell in sought.cells:
             if station := self.relay.places.get((cell, 0)):
                 self.relay.pass_on(station, sought.message)
+        self.run_t3113(sought)
+
+    def run_t3113(self, sought):
+        """It is called again after a while."""
         self.times.set(("t3113", sought.imsi), self.seconds["t3113"], lambda: self.call(sought), self.relay.once_read)
 
     def hear(self, layer_3):

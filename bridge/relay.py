@@ -14,6 +14,7 @@ from faults import Faults
 from lost import LostCalls
 from notices import Notices
 from operators import HELP, Operator
+from page import keeps
 from reports import report_in
 from rsl import Channel
 from stations import ACTIVATING, CLOSING, LEAVING, ON, RELEASING, Station, Use
@@ -26,6 +27,7 @@ if typing.TYPE_CHECKING:
     from links import Links
     from log import Log
     from stream import Stream
+    from succession import Succession
 
 # How many octets the controller may have to answer before nothing more is read from stations; of operators as many, and so many
 # lines, so that what stations say doesn't wait behind more.
@@ -33,6 +35,8 @@ MOST_UNREAD, MOST_ASKED = 1 << 20, 16
 # Which timer each event of a call arms, and which events end it.
 ARMING = {"command": "T3103", "require": "T7", "order": "T8"}
 DISARMING = ("complete", "undo", "left")
+# Which timer runs in each stage of an attempt.
+RUNNING = {"commanded": "T3103", "detected": "T3103", "required": "T7", "ordered": "T8"}
 # A message of a station that the controller takes in, and messages that it sends.
 CAME = re.compile(rb"in abis (\d+) (\d+) ([0-9a-f]+)")
 SENT = re.compile(rb"out abis (\d+) (\d+) ([0-9a-f]+)")
@@ -63,6 +67,14 @@ NOT_AWAITED = "8"
 ANSWERS = {rsl.ACTIVATION_ACK: ACTIVATING, rsl.ACTIVATION_NACK: ACTIVATING, rsl.RELEASE_ACK: RELEASING}
 
 
+@keeps(
+    *("core", "given", "asked", "unanswered", "questions", "giver", "answered", "about", "unreadable", "reasons", "unread"),
+    *("line", "heard", "is_done", "is_strayed", "watchers", "counts", "events"),
+    wired=(
+        *("stations", "places", "times", "faults", "seconds", "links", "log", "tells_messages", "away_since", "again", "succession"),
+        *("site", "calls", "tallies", "notices", "lost", "endings", "views"),
+    ),
+)
 class Relay:
     """Stations on one side, the controller on the other."""
 
@@ -102,6 +114,7 @@ class Relay:
         # whether it has printed a line that no controller prints
         self.is_strayed = False
         self.again: Again
+        self.succession: Succession
         # by cell its traffic channels; None where the site isn't to be read
         self.site: dict | None = None
         self.begin_to_follow()
@@ -117,6 +130,27 @@ class Relay:
         self.lost = LostCalls(self)
         self.endings = Endings(self.times, self.seconds, self.release, self.once_read, self.tallies.expired)
         self.views = Views(self)
+
+    def parts(self):
+        """Its parts that another bridge takes over (page.py), by their names."""
+        parts = {name: getattr(self, name) for name in ("calls", "tallies", "notices", "lost", "endings", "links", "again", "faults")}
+        units = {f"station {unit}": station for unit, station in self.stations.items()}
+        return {"relay": self, "views": self.views, "watch": self.again.watch, **parts, **units}
+
+    def resume(self):
+        """Goes on with the times that another bridge has set."""
+        for number, call in self.calls.calls.items():
+            if self.times.was_set(("timer", number)):
+                self.run_timer(number, RUNNING[call.stage])
+        for station in self.stations.values():
+            for number in station.channels:
+                if self.times.was_set((station.unit, number)):
+                    self.run_answer(station, number)
+        for number in self.unreadable:
+            if self.times.was_set(("reason", number)):
+                self.run_reason(number)
+        for it in (self.lost, self.endings, self.again.watch, self.notices, *self.links.all):
+            it.resume()
 
     @property
     def is_away(self):
@@ -172,7 +206,7 @@ class Relay:
 
     def is_awaited(self, operator):
         """Whether something is yet to come of an operator's lines."""
-        if self.again.is_awaited(operator):
+        if self.again.is_awaited(operator) or self.succession.is_awaited(operator):
             return True
         return any(giver is operator for _, giver, *_ in (*self.given, *self.unreadable.values()))
 
@@ -275,7 +309,11 @@ class Relay:
         if number in self.reasons:
             self.explain(number)
         else:
-            self.times.set(("reason", number), SOON, lambda: self.explain(number))
+            self.run_reason(number)
+
+    def run_reason(self, number):
+        """The reason is waited for, but not for long."""
+        self.times.set(("reason", number), SOON, lambda: self.explain(number))
 
     def hear_error(self, line):
         """Hears what the controller says on standard error: mostly why it can't read a line."""
@@ -304,8 +342,12 @@ class Relay:
         if event.name in DISARMING:
             self.times.forget(("timer", call))
         elif name:
-            line = f"expire {call} {name}".encode()
-            self.times.set(("timer", call), self.seconds[name.lower()], lambda: self.give(line), self.once_read)
+            self.run_timer(call, name)
+
+    def run_timer(self, call, name):
+        """Runs a timer of a call."""
+        line = f"expire {call} {name}".encode()
+        self.times.set(("timer", call), self.seconds[name.lower()], lambda: self.give(line), self.once_read)
 
     # Messages to stations
 
@@ -393,6 +435,10 @@ class Relay:
     def await_answer(self, station, number, state):
         """The station has to answer about a channel in time."""
         station.channels[number] = Use(state, asked=station.link.reach() if station.link else 0)
+        self.run_answer(station, number)
+
+    def run_answer(self, station, number):
+        """The answer about a channel is waited for."""
         self.times.set(
             (station.unit, number), self.seconds["answer"], lambda: self.answer_for(station, number), self.once_read
         )

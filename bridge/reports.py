@@ -4,6 +4,8 @@ from __future__ import annotations
 
 import dataclasses
 
+from page import keeps
+
 # Elements (TS 48.058, 9.3): result number, uplink measurements, BS power, L1 information, L3 information. What stands behind the
 # identifier of those without a length.
 UPLINK, L1, L3, WITHOUT_LENGTH = 0x19, 0x0A, 0x0B, {0x1B: 1, 0x04: 1, 0x0A: 2}
@@ -19,6 +21,7 @@ NOT_VALID, COUNT, FIRST, LEVEL_BITS, PLACE_BITS, COLOUR_BITS, NONE = 0x40, 23, 2
 LOWEST = -110
 
 
+@keeps()
 @dataclasses.dataclass(frozen=True)
 class Heard:
     """How one side hears the other: the level, and the quality, 0 the best and 7 the worst (TS 45.008, 8.2.4)."""
@@ -30,6 +33,7 @@ class Heard:
         return f"{self.level + LOWEST} dBm, quality {self.quality}"
 
 
+@keeps()
 @dataclasses.dataclass(frozen=True)
 class Report:
     """A report: how the station hears the mobile, and the mobile the station, where that is told; the neighbours that the mobile

@@ -4,6 +4,8 @@ and how those are written that are given or sent in another's place. All else of
 import re
 import typing
 
+from page import keeps
+
 # Message discriminators (clause 9.1). The lowest bit of the octet says whether the message is transparent.
 RADIO_LINK, DEDICATED, COMMON, TRX = 0x02, 0x08, 0x0C, 0x10
 # Types of messages (clause 9.2), of the radio link layer, of dedicated channel management, and of TRX management.
@@ -99,6 +101,7 @@ LONGEST = 32_000
 WORDS = re.compile(r"(\d+)/(\d+)/([0-7])(?:/([01]))?")
 
 
+@keeps()
 class Channel(typing.NamedTuple):
     """A channel of a site: its cell, its TRX, and its channel number (clause 9.3.1), an octet."""
 

@@ -4,7 +4,10 @@ import enum
 import socket
 import typing
 
+from page import keeps
 
+
+@keeps()
 class Codec(enum.Enum):
     """By the rate of the channel. `version` is that of the channel type and of the speech version (TS 48.008, 3.2.2.11 and
     3.2.2.51), `kind` the codec type in a codec element (3.2.2.103), `channel` the low half of the chosen channel (3.2.2.33).
@@ -28,6 +31,7 @@ def codec_of(number):
     return Codec.FULL if number & 0xF8 == 0x08 else Codec.HALF
 
 
+@keeps()
 class Address(typing.NamedTuple):
     """Where RTP goes: an address of IP, version 4, in words, and a port."""
 

@@ -4,11 +4,13 @@ import bssmap
 import link_layer
 import rsl
 from bssmap import Cause
+from page import keeps
 
 # How many messages of a call may wait for the link; more are rejected.
 MOST_WAITING = 16
 
 
+@keeps("is_open", "is_asked", "is_left", "waiting")
 class ShortLink:
     """The link of a call: whether it is there, whether the station was asked for it, whether the mobile left it behind
     there, and what waits for it."""
@@ -23,6 +25,12 @@ class ShortLinks:
 
     def __init__(self, relay, times, seconds):
         self.relay, self.times, self.seconds = relay, times, seconds
+
+    def resume(self):
+        """Goes on with the times that another bridge has set."""
+        for call in self.relay.talks.by_number.values():
+            if self.times.was_set(("short", call.number)):
+                self.await_link(call)
 
     def tell(self, call, layer_3):
         """The centre says something to a mobile on this link."""
@@ -46,8 +54,12 @@ class ShortLinks:
         elif not link.is_asked:
             link.is_asked = True
             self.send(channel, link_layer.establish_request(channel.number, link_layer.SHORT_LINK))
-            seconds = self.seconds["establish"]
-            self.times.set(("short", call.number), seconds, lambda: self.fail(call, Cause.NOT_EQUIPPED), self.relay.once_read)
+            self.await_link(call)
+
+    def await_link(self, call):
+        """The link has to come in time."""
+        seconds = self.seconds["establish"]
+        self.times.set(("short", call.number), seconds, lambda: self.fail(call, Cause.NOT_EQUIPPED), self.relay.once_read)
 
     def send(self, channel, message):
         """Sends the station of a channel a message."""

@@ -5,6 +5,7 @@ import typing
 
 from bssmap import Cause
 from elements import elements_in
+from page import keeps
 from rtp import Address, codec_of
 
 # Elements: channel type, encryption information, the algorithm in use, transport address, list of codecs.
@@ -19,6 +20,7 @@ FIRST_VERSIONS = (0x01, 0x05)
 CONFIGURED = {0x3: 2, 0x4: 2, 0xB: 2, 0x9: 1, 0xC: 1, 0xD: 1, 0xF: 2}
 
 
+@keeps()
 class Kind(enum.IntEnum):
     """What a channel is for (3.2.2.11)."""
 
@@ -36,6 +38,7 @@ class Unserved(Exception):
         self.cause = cause
 
 
+@keeps()
 class Wanted(typing.NamedTuple):
     """What is asked for: its kind, the rate as it stands there, the versions of speech that are permitted, the codecs that
     are, None where none is named; and where the centre has the speech, None where there is none."""

@@ -5,6 +5,7 @@ import collections
 import dataclasses
 import typing
 
+from page import keeps
 from reports import Report
 from rsl import Channel
 from tell import Since
@@ -19,6 +20,7 @@ MOST_NAMES = 64
 STATES = ACTIVATING, ON, LEAVING, RELEASING, CLOSING = "activating", "on", "leaving", "releasing", "closing"
 
 
+@keeps()
 @dataclasses.dataclass(eq=False)
 class Use:
     """How a station has a channel, and since when."""
@@ -31,6 +33,7 @@ class Use:
     report: Report | None = None
 
 
+@keeps(*("link", "since", "lost", "came", "sent", "passed", "unsent", "channels"), wired=("unit", "cell", "trx", "addresses"))
 @dataclasses.dataclass(eq=False)
 class Station:
     """What is known of a TRX of a base station, which has a link of its own."""

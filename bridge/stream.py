@@ -11,6 +11,8 @@ import termios
 import threading
 import time
 
+from page import keeps
+
 # How many octets are read at once.
 PIECE = 1 << 16
 # How many octets may wait to be written to one place.
@@ -44,13 +46,16 @@ class Times:
         self.heap = []
         self.current = {}
         self.numbers = itertools.count()
+        # by name the moment at which another bridge would have done something, which this one sets anew now
+        self.left = {}
 
     def set(self, name, seconds, action, gate=None):
         """Does something in so many seconds. Where there is a gate, that is given what is to be done then, and does it later;
         until it has, it can still be forgotten."""
         number = next(self.numbers)
         self.current[name] = number
-        heapq.heappush(self.heap, (time.monotonic() + seconds, number, name, action, gate))
+        at = self.left.pop(name, None)
+        heapq.heappush(self.heap, (time.monotonic() + seconds if at is None else at, number, name, action, gate))
         if len(self.heap) > 2 * len(self.current) + FEW:
             self.tidy()
 
@@ -62,6 +67,16 @@ class Times:
     def forget(self, name):
         """Doesn't do it."""
         self.current.pop(name, None)
+
+    def moments(self):
+        """The names under which something is to be done, each with its moment, on the system's clock. What has been given to a gate
+        is due."""
+        moments = {name: at for at, number, name, *_ in self.heap if self.current.get(name) == number}
+        return {name: moments.get(name, 0.0) for name in self.current}
+
+    def was_set(self, name):
+        """Whether another bridge was to do something under this name, and this one hasn't set it anew."""
+        return name in self.left
 
     def is_set(self, name):
         """Whether something is to be done under this name."""
@@ -89,6 +104,7 @@ class Times:
             action()
 
 
+@keeps("octets", wired=("take",))
 class Lines:
     """The lines of a stream of octets."""
 
@@ -111,6 +127,11 @@ class Lines:
         return rest
 
 
+@keeps(
+    *("selector", "reads", "writes", "lines", "waiting", "pauses", "is_operators", "is_last", "has_failed", "is_unread"),
+    wired=("heard", "ended", "unread", "faulty"),
+    files=("reads", "writes"),
+)
 class Stream:
     """A socket or a pipe, of which octets are read as they come, and to which octets are written as it takes them."""
 
@@ -121,6 +142,8 @@ class Stream:
         self.selector = selector
         self.reads, self.writes = reads, writes
         self.heard, self.ended, self.unread = heard, ended, unread
+        # the lines that `heard` takes out of the octets; None where it does otherwise
+        self.lines: Lines | None = None
         # who is told a fault of the bridge that was met while it was handled; None where that is the bridge itself
         self.faulty = None
         # whether it is an operator's, who waits behind all others, also to be written to
@@ -132,6 +155,11 @@ class Stream:
         # whether nothing can be written any more, and whether that is since too much waited
         self.has_failed = self.is_unread = False
         self.watch()
+
+    def hear_lines(self, take):
+        """Hands out the lines of what comes, behind the octets of one that came by now."""
+        self.lines = self.lines or Lines(take)
+        self.lines.take, self.heard = take, self.lines.add
 
     def watch(self):
         """Waits for what is of use now."""

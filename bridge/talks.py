@@ -1,6 +1,7 @@
 """What mobiles and the centre say to one another: of each call what the radio book doesn't know."""
 from access import Cause
 from outgoing import Outgoing
+from page import keeps
 from short_messages import ShortLink
 
 # How many numbers of calls there are.
@@ -9,6 +10,10 @@ NUMBERS = 1 << 16
 MOVING = ("commanded", "detected", "ordered")
 
 
+@keeps(
+    *("number", "is_over", "is_clearing", "is_lost", "station", "request", "is_awaited", "identity", "connection", "is_cut"),
+    *("mode", "assignment", "arrival", "speech", "is_ciphering", "down", "up", "short", "outgoing"),
+)
 class Talk:
     """A call: the book has its channels, under the same number."""
 
@@ -40,6 +45,7 @@ class Talk:
         return f"call {self.number}"
 
 
+@keeps("by_number", "reserved", "next", wired=("calls",))
 class Talks:
     """All calls that the bridge knows, by their numbers; `calls` are those of the book."""
 

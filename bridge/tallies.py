@@ -5,6 +5,7 @@ import collections
 import bssmap
 import rsl
 from calls import Event
+from page import keeps
 from rsl import Channel
 
 # For what a channel is asked for.
@@ -21,6 +22,11 @@ TAKING_BACK = ("undo", "clear")
 FAILED, AT_LAYER_3 = b"\x06\x28", slice(9, 11)
 
 
+@keeps(
+    *("given", "none_free", "handovers", "assignments", "requests", "rejected", "expiries", "reports", "lost", "faults"),
+    *("input", "message", "is_operators"),
+    wired=("calls",),
+)
 class Tallies:
     """The counts of all cells, by name; each under its cell and its further labels."""
 

@@ -3,6 +3,7 @@ import enum
 import os
 import time
 
+from page import keeps
 from stream import Writer
 
 # What the bridge says and what the controller prints, each on a file of its own.
@@ -54,15 +55,17 @@ def now():
     return time.strftime("%H:%M:%S")
 
 
+@keeps("at")
 class Since:
     """A moment, from which on something is so: told by its time of day, and by its date where that isn't today's."""
 
     def __init__(self):
-        self.at = time.localtime()
+        self.at = time.time()
 
     def __str__(self):
-        is_today = self.at[:3] == time.localtime()[:3]
-        return time.strftime("%H:%M:%S" if is_today else "%Y-%m-%d %H:%M:%S", self.at)
+        at = time.localtime(self.at)
+        is_today = at[:3] == time.localtime()[:3]
+        return time.strftime("%H:%M:%S" if is_today else "%Y-%m-%d %H:%M:%S", at)
 
 
 def plain(text):
@@ -106,7 +109,7 @@ class Sayings:
             peer = "others"
         if peer not in self.said:
             self.said[peer] = 0
-            self.times.set(("said", peer), PERIOD, lambda: self.end(peer))
+            self.times.set(("said", self, peer), PERIOD, lambda: self.end(peer))
         self.said[peer] += 1
         if self.said[peer] <= MOST_LINES:
             say(text, level)

@@ -1,6 +1,7 @@
 """Whether a program goes on with a controller's calls, tried beside the controller: over a copy of the last file of its journal, with
 nothing to do behind that. The controller and its journal notice nothing. What the copy ends with may be half a record, since the
 controller may be writing it."""
+import functools
 import os
 import pathlib
 import re
@@ -9,7 +10,7 @@ import tempfile
 
 from child import begin, kill_all
 from journal import Journal, JournalError
-from stream import Lines, Stream
+from stream import Stream
 from tell import plain
 
 # After which time is looked again whether it is gone, in seconds.
@@ -94,60 +95,79 @@ class Tried:
         return None
 
 
-class Trial:
-    """A program that is tried while the bridge runs."""
+class Beside:
+    """A program that runs beside the bridge, and is given nothing."""
 
-    def __init__(self, bridge, command, journal, seconds, done):
-        """`seconds` is how long it may take. `done` is told once what was found: what is wrong, in words, or None; and the line
-        behind which it goes on."""
-        self.times, self.seconds, self.done = bridge.times, seconds, done
-        self.copy, self.is_late = Copy(journal), False
-        self.tried = Tried(self.copy.last)
-        try:
-            self.process, writes, reads, errors = begin(command_over(command, self.copy.folder))
-        except OSError:
-            self.copy.remove()
-            raise
-        # it is given nothing
+    def __init__(self, bridge, name, command, seconds, hear, done):
+        """`name` is that of its time, `seconds` how long it may take. `hear` takes each line of its standard error; `done` is told,
+        once it is gone, its status, and whether it was killed for taking longer."""
+        self.times, self.name, self.hear, self.done = bridge.times, name, hear, done
+        self.is_late = False
+        self.process, writes, reads, errors = begin(command)
         os.close(writes)
-        said = Lines(self.tried.hear)
-        self.streams = [
-            Stream(bridge.selector, reads, None, lambda _octets: None, lambda: self.closed(0)),
-            Stream(bridge.selector, errors, None, said.add, lambda: self.closed(1)),
-        ]
-        self.open = {0, 1}
-        self.times.set("trial", seconds, self.kill)
+        self.streams = [Stream(bridge.selector, reads), Stream(bridge.selector, errors)]
+        self.streams[0].heard = lambda _octets: None
+        self.streams[1].hear_lines(hear)
+        for it in self.streams:
+            it.ended = functools.partial(self.closed, it)
+        self.times.set(name, seconds, self.kill)
 
     def kill(self):
         """It takes too long."""
         self.is_late = True
         kill_all(self.process)
 
-    def closed(self, place):
+    def closed(self, stream):
         """It prints nothing more at one of its outputs."""
-        self.streams[place].close()
-        self.open.discard(place)
-        if not self.open:
+        stream.close()
+        self.streams.remove(stream)
+        if not self.streams:
             self.look()
 
     def look(self):
-        """Once it is gone, what was found is told."""
+        """Once it is gone, that is told."""
         if (status := self.process.poll()) is None:
-            self.times.set("trial-gone", SOON, self.look)
+            self.times.set((self.name, "gone"), SOON, self.look)
             return
         self.forget()
-        problem = f"it isn't done in {self.seconds:g} seconds, and is killed" if self.is_late else self.tried.problem(status)
-        self.done(problem, self.tried.line)
+        self.done(status, self.is_late)
 
     def forget(self):
-        """Nothing of it stays."""
-        for name in ("trial", "trial-gone"):
+        """Nothing more is awaited of it."""
+        for name in (self.name, (self.name, "gone")):
             self.times.forget(name)
-        self.copy.remove()
 
     def leave(self):
         """The bridge ends, and it with it."""
         kill_all(self.process)
-        for place in tuple(self.open):
-            self.streams[place].close()
+        for stream in self.streams:
+            stream.close()
         self.forget()
+
+
+class Trial:
+    """A program that is tried while the bridge runs."""
+
+    def __init__(self, bridge, command, journal, seconds, done):
+        """`seconds` is how long it may take. `done` is told once what was found: what is wrong, in words, or None; and the line
+        behind which it goes on."""
+        self.seconds, self.done = seconds, done
+        self.copy = Copy(journal)
+        self.tried = Tried(self.copy.last)
+        try:
+            words = command_over(command, self.copy.folder)
+            self.beside = Beside(bridge, "trial", words, seconds, self.tried.hear, self.gone)
+        except OSError:
+            self.copy.remove()
+            raise
+
+    def gone(self, status, is_late):
+        """It is gone: what was found is told."""
+        self.copy.remove()
+        problem = f"it isn't done in {self.seconds:g} seconds, and is killed" if is_late else self.tried.problem(status)
+        self.done(problem, self.tried.line)
+
+    def leave(self):
+        """The bridge ends, and it with it."""
+        self.beside.leave()
+        self.copy.remove()

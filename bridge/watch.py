@@ -2,6 +2,7 @@
 import os
 import pathlib
 
+from page import keeps
 from tell import Level, Since, say
 
 # In so many parts the time is divided in which it may answer nothing; behind each it is looked at. A bridge that itself gets no
@@ -13,6 +14,9 @@ DISK, RUNNING, STOPPED = "D", "R", {"T", "t"}
 STATE, GROUP, TIMES = 0, 2, slice(11, 13)
 
 
+@keeps(
+    *("begun", "has_gone_on", "place", "parts", "hanging", "used", "since"), wired=("bridge", "relay", "times", "seconds")
+)
 class Watch:
     """Kills a controller that hangs: it has lines, answers none, and neither waits for a disk nor for a processor."""
 
@@ -20,6 +24,11 @@ class Watch:
         """`seconds` is how long it may hang."""
         self.bridge, self.relay, self.times, self.seconds = bridge, bridge.relay, bridge.times, seconds
         self.begin()
+
+    def resume(self):
+        """Goes on with the times that another bridge has set."""
+        if self.times.was_set("watch"):
+            self.await_answer()
 
     def begin(self):
         """A controller begins. Until it has answered something, or goes on over its journal, it may take any time, as to be built,
