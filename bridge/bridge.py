@@ -37,7 +37,7 @@ STATIONS, OPERATORS = "stations", "operators"
 
 
 @keeps(
-    *("sockets", "clients", "came", "standard", "listeners", "core", "errors", "is_garbled", "is_faulty", "unlogged"),
+    *("sockets", "clients", "came", "standard", "listeners", "core", "errors", "is_garbled", "is_faulty"),
     wired=(
         *("words", "selector", "times", "relay", "links", "turns", "control", "figures", "again", "succession", "signals"),
         *("is_ending", "is_killed"),
@@ -46,8 +46,8 @@ STATIONS, OPERATORS = "stations", "operators"
 class Bridge:
     """Sockets, the controller, and the time."""
 
-    # what says where stations may come from
-    BIND = "--bind"
+    # what says where stations may come from; and the number of standard input
+    BIND, INPUT = "--bind", 0
 
     def __init__(self, words, make_relay=Relay):
         """`words` are the settings: `stations`, `seconds`, `bind`, `port`, `log`, `control`, `figures`, `figures_every`,
@@ -71,8 +71,6 @@ class Bridge:
         self.core: subprocess.Popen | None = None
         # what it says on standard error
         self.errors: Stream | None = None
-        # of the log what the bridge before hadn't written, and how many lines were missing there
-        self.unlogged: tuple[bytes, int] = (b"", 0)
         self.succession = self.relay.succession = Succession(self, Begun(words.arguments, words.paths))
         self.signals: tuple[socket.socket, socket.socket] | None = None
         self.again = self.relay.again = Again(self, words.core, words.again, words.hang)
@@ -87,9 +85,9 @@ class Bridge:
         words, self.control = self.words, self.words.control
         if state:
             take_over(self, state, opened)
-        if words.log:
-            self.relay.log = Log(words.log, self.times, *self.unlogged)
-        if not state:
+        else:
+            if words.log:
+                self.relay.log = Log(words.log, self.times)
             family = socket.AF_INET6 if ":" in words.bind else socket.AF_INET
             self.listeners[STATIONS] = socket.create_server((words.bind, words.port), family=family)
             if words.control:
@@ -97,7 +95,7 @@ class Bridge:
         for name in self.listeners:
             self.listen(name)
         if words.figures:
-            self.figures = FiguresFile(words.figures, words.figures_every, self.times, self.relay.figures)
+            self.figures = FiguresFile(words.figures, words.figures_every, self.times, self.relay.figures, not state)
         self.watch_signals()
         if state:
             self.join()
@@ -111,7 +109,7 @@ class Bridge:
     def begin(self):
         """Starts the controller, and hears the operator at standard input."""
         self.again.start()
-        self.standard = Standard(self)
+        self.standard = Standard(self, self.INPUT)
 
     # Another bridge in this one's place
 
@@ -119,10 +117,6 @@ class Bridge:
         """The parts of which a page tells (page.py), by their names."""
         own = {"bridge": self, "times": self.times, "selector": self.selector, "turns": self.turns, "succession": self.succession}
         return {**own, **self.relay.parts()}
-
-    def unkept(self):
-        """What can't be kept just now, in words; None where all can."""
-        return None
 
     def resume(self):
         """Goes on with the times that another bridge has set."""
@@ -132,10 +126,11 @@ class Bridge:
 
     def join(self):
         """Is told what comes of all that another bridge has opened."""
+        if self.relay.log:
+            self.relay.log.note("another bridge goes on here")
         self.join_core()
         for it in (self.standard, *self.clients, *self.links.all):
             it.join()
-            it.stream.watch()
 
     # The controller
 
@@ -153,8 +148,6 @@ class Bridge:
         core.ended, core.unread = lambda: self.core_ended(core.lines), self.core_unread
         errors.hear_lines(self.hear_error)
         errors.ended = lambda: self.errors_ended(errors.lines)
-        for it in (core, errors):
-            it.watch()
 
     def hear(self, line):
         """Hears what the controller prints. Where that is no line of a controller's, nothing more is heard of it."""

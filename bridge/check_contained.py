@@ -60,7 +60,7 @@ def at_a_station(start, room, _program):
 
 def at_a_timer_of_a_link(start, room, _program):
     """A fault is met as a link's time is over: that link ends alone."""
-    abis = faulty(room, {"links.Link.lose_patience": "lambda _link, _taken: True"})
+    abis = faulty(room, {"links.Link.lose_patience": "lambda _link: True"})
     bridge = start("--patience", SLOW, abis=abis)
     station = bridge.station(SECOND, trx=1)
     station.answers_pings = True

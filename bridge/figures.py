@@ -17,13 +17,14 @@ ATTEMPTS = ("none", "internal", "incoming", "outgoing")
 class FiguresFile:
     """The file. Who reads it finds one text or the next, never a part."""
 
-    def __init__(self, path, seconds, times, families):
-        """`families` gives the figures of now, which are written every so many seconds."""
+    def __init__(self, path, seconds, times, families, is_first=True):
+        """`families` gives the figures of now, which are written every so many seconds. Where another bridge has written them that
+        isn't the first time."""
         self.path, self.seconds, self.times, self.families = path, seconds, times, families
         self.is_failing = False
-        if os.path.lexists(path) and not stat.S_ISREG(os.lstat(path).st_mode):
+        if is_first and os.path.lexists(path) and not stat.S_ISREG(os.lstat(path).st_mode):
             raise OSError(f"{path!r}: is there, and is no file")
-        self.write(is_first=True)
+        self.write(is_first)
 
     def wait(self):
         """Has it written again later."""

@@ -129,6 +129,7 @@ class IpaClient:
         """Is told what comes."""
         it = self.stream
         it.heard, it.ended, it.faulty = self.heard, lambda: self.lose("the link ended"), self.faulty
+        it.watch()
 
     def send(self, octets):
         """Sends a message of SCCP."""

@@ -109,6 +109,7 @@ class Link:
         """Is told what comes."""
         it = self.stream
         it.heard, it.ended, it.faulty = self.heard, self.ended, self.faulty
+        it.watch()
 
     def resume(self):
         """Goes on with the times that another bridge has set."""

@@ -4,6 +4,7 @@ import os
 import stat
 import time
 
+from page import keeps
 from tell import Level, say
 
 # How many octets may wait for room on a disk that is full.
@@ -18,17 +19,17 @@ def stamp():
     return f"{time.strftime('%Y-%m-%d %H:%M:%S', time.localtime(seconds))}.{int(seconds * 1000) % 1000:03}"
 
 
+@keeps("path", "times", "file", "waiting", "missing", "is_full", files=("file",))
 class Log:
     """A log at a path."""
 
-    def __init__(self, path, times, waiting=b"", missing=0):
-        """`times` are told when a full disk is to be tried again. What was waiting for room in another bridge, and how many lines were
-        missing, stands in front."""
+    def __init__(self, path, times):
+        """`times` are told when a full disk is to be tried again."""
         self.path, self.times = path, times
         self.file = self.opened()
         # what isn't written yet, for want of room, and how many lines there wasn't even room for here
-        self.waiting = bytearray(waiting)
-        self.missing = missing
+        self.waiting = bytearray()
+        self.missing = 0
         self.is_full = False
         self.go_on()
 
@@ -99,13 +100,22 @@ class Log:
             if not self.is_full:
                 say(f"{self.path}: the log can't be written now: {error}", Level.ERROR)
             self.is_full = True
-            self.times.set("log", AGAIN, self.flush)
+            self.try_again()
             return
         if self.is_full:
             self.is_full, missing, self.missing = False, self.missing, 0
             say(f"{self.path}: the log goes on; lines that are missing: {missing}")
             if missing:
                 self.note(f"{missing} lines are missing here")
+
+    def try_again(self):
+        """A full disk is tried again before long."""
+        self.times.set("log", AGAIN, self.flush)
+
+    def resume(self):
+        """Goes on with the time that another bridge has set."""
+        if self.times.was_set("log"):
+            self.try_again()
 
     def write_piece(self):
         """Writes the first of the lines that wait, and no half of one."""

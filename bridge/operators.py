@@ -199,10 +199,11 @@ class Watched:
 class Standard(Operator):
     """The operator at standard input. That is left blocking, since others may have it too."""
 
-    def __init__(self, bridge):
+    def __init__(self, bridge, number):
+        """`number` is that of the file."""
         super().__init__(bridge.relay, "operator at standard input")
         self.bridge = bridge
-        self.stream = Stream(bridge.selector, 0)
+        self.stream = Stream(bridge.selector, number)
         self.stream.is_operators = True
         self.join()
 

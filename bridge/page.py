@@ -9,6 +9,7 @@ import collections
 import dataclasses
 import enum
 import json
+import os
 import socket
 import subprocess
 import zlib
@@ -95,13 +96,19 @@ class Keeper:
         if isinstance(it, list):
             return [self.value(each, where) for each in it]
         if isinstance(it, socket.socket):
-            self.files.add(it.fileno())
-            return {"socket": it.fileno()}
+            return self.socket(it.fileno())
         if isinstance(it, (subprocess.Popen, Adopted)):
             return {"process": it.pid}
         if isinstance(it, tuple) and type(it) is not tuple:
             return {"record": [self.known(it, where), [self.value(each, where) for each in it]]}
         return self.collection(it, where)
+
+    def socket(self, number):
+        """A socket, which may be closed."""
+        if number < 0:
+            return None
+        self.files.add(number)
+        return {"socket": number}
 
     def collection(self, it, where):
         """A collection, octets, or an object."""
@@ -167,7 +174,12 @@ class Taker:
         """The attributes of a part or an object."""
         if other := {*it.KEPT} ^ {*found}:
             raise Unkept(f"{where} has other attributes than here: {', '.join(sorted(other))}")
-        return {name: self.value(value) for name, value in found.items()}
+        taken = {name: self.value(value) for name, value in found.items()}
+        if self.opens:
+            for number in (taken[name] for name in it.FILES if taken[name] is not None):
+                # as all files that the bridge opens: programs that it begins don't have them
+                os.set_inheritable(number, False)
+        return taken
 
     def value(self, found):
         """A value."""

@@ -69,9 +69,9 @@ ANSWERS = {rsl.ACTIVATION_ACK: ACTIVATING, rsl.ACTIVATION_NACK: ACTIVATING, rsl.
 
 @keeps(
     *("core", "given", "asked", "unanswered", "questions", "giver", "answered", "about", "unreadable", "reasons", "unread"),
-    *("line", "heard", "is_done", "is_strayed", "watchers", "counts", "events"),
+    *("line", "heard", "is_done", "is_strayed", "watchers", "counts", "events", "log"),
     wired=(
-        *("stations", "places", "times", "faults", "seconds", "links", "log", "tells_messages", "away_since", "again", "succession"),
+        *("stations", "places", "times", "faults", "seconds", "links", "tells_messages", "away_since", "again", "succession"),
         *("site", "calls", "tallies", "notices", "lost", "endings", "views"),
     ),
 )
@@ -151,6 +151,8 @@ class Relay:
                 self.run_reason(number)
         for it in (self.lost, self.endings, self.again.watch, self.notices, *self.links.all):
             it.resume()
+        if self.log:
+            self.log.resume()
 
     @property
     def is_away(self):

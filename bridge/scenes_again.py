@@ -13,6 +13,8 @@ from telephone import Moving
 
 # How many seconds a controller is away.
 AWAY = 1.0
+# The stations of the two cells.
+UNITS = ("6969/0/0", "6970/0/0")
 # Within how many seconds it is killed again, where that is at random.
 LONGEST = 4.0
 
@@ -134,6 +136,45 @@ def upgraded(show):
     end(show, one, two)
 
 
+def the_bridge_is_upgraded(show):
+    """Ten bridges take the place of one another while both speak: they hear each frame, and no link is lost. Another one does while a
+    telephone is on its way to the other cell, and others between two steps of a call."""
+    one, two = begin(show)
+    links, resets = stations_of(show), show.run.known("the centre began anew")
+    show.lose_nothing(one, two, lambda: another_bridge(show, 10))
+    number = is_sent(show, one, 1)
+    another_bridge(show)
+    one.arrive()
+    show.expect_of(show.run, f"^event complete {number} -> done$")
+    show.hear(one, two)
+    another_bridge(show)
+    end(show, one, two)
+    one, two = show.telephone(KNOWN), show.telephone(ANOTHER, 1)
+    steps = (lambda: one.dial(two.number), two.answer_paging, two.ring, one.has_speech, two.take_call, one.is_taken, one.hang_up)
+    for step in (*steps, two.is_hung_up):
+        step()
+        another_bridge(show)
+    show.off(one, two)
+    must(stations_of(show) == links, f"stations were {links}, and are {stations_of(show)}")
+    must(show.run.known("the centre began anew") == resets, "the centre has begun anew")
+
+
+def another_bridge(show, count=1):
+    """Other bridges take the place, one after another."""
+    for _ in range(count):
+        show.run.said.at = len(show.run.said.lines)
+        show.run.ask("bridge upgrade")
+        show.expect_in(show.run.said, "bridge upgrade: .* goes on in the bridge's place")
+
+
+def stations_of(show):
+    """Since when each station is there, and how often its link was lost."""
+    at = len(show.run.out.lines)
+    show.run.ask("stations")
+    found = [show.run.out.find(rf"^station {unit} .*: there since ([0-9:]+);.* links lost: (\d+)$", at)[0] for unit in UNITS]
+    return [it.groups() for it in found]
+
+
 def killed_at_random(show):
     """Both controllers are killed at random, again and again, while all scenes of calls are played."""
     is_over, counts = threading.Event(), [0, 0]
@@ -187,6 +228,7 @@ def the_bridge_is_killed(show):
     end(show, one, two)
 
 
-SCENES = (killed_in_speech, killed_while_it_moves, killed_between, killed_at_each_step, upgraded, the_bridge_is_killed)
+SCENES = (killed_in_speech, killed_while_it_moves, killed_between, killed_at_each_step, upgraded, the_bridge_is_upgraded)
+SCENES += (the_bridge_is_killed,)
 # These are played only where they are named.
 NAMED = (killed_at_random,)

@@ -157,9 +157,10 @@ class Stream:
         self.watch()
 
     def hear_lines(self, take):
-        """Hands out the lines of what comes, behind the octets of one that came by now."""
+        """Hands out the lines of what comes, behind the octets of one that came by now, and waits for them."""
         self.lines = self.lines or Lines(take)
         self.lines.take, self.heard = take, self.lines.add
+        self.watch()
 
     def watch(self):
         """Waits for what is of use now."""

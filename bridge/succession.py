@@ -19,9 +19,9 @@ from trial import Beside
 # The option by which a program is given a page.
 OPTION = "--takes-over"
 # How many seconds a bridge may take to look at a page; and how long what is printed may take to be written.
-LONGEST, UNWRITTEN = 30.0, 1.0
+LONGEST, UNWRITTEN = 120.0, 1.0
 # Times that the new bridge sets itself, as it begins or as they are wanted.
-OWN_TIMES = ("figures", "log")
+OWN_TIMES = ("figures",)
 OWN_KINDS = ("said", "listener")
 # How many lines of a program's standard error are told.
 MOST_SAID = 20
@@ -109,7 +109,7 @@ class Succession:
             return "the bridge ends"
         if path := self.begun.changed():
             return f"{path} has changed since the bridge began, and is for one that begins anew"
-        return self.bridge.again.unkept() or self.bridge.unkept()
+        return self.bridge.again.unkept()
 
     def tried(self, status, is_late, said):
         """A bridge of the program has looked at the page."""
@@ -137,17 +137,14 @@ class Succession:
 
     def state(self):
         """What is known now; and the numbers of the files that stay open."""
-        bridge = self.bridge
-        if bridge.relay.log:
-            bridge.unlogged = bytes(bridge.relay.log.waiting), bridge.relay.log.missing
-        keeper = page.Keeper(bridge.parts())
-        return keeper.state(kept_times(bridge.times)), keeper.files
+        keeper = page.Keeper(self.bridge.parts())
+        return keeper.state(kept_times(self.bridge.times)), keeper.files
 
     # The end of this one
 
     def look(self):
         """Nothing is handled now: the program takes this one's place, if that is so far."""
-        if not self.is_due:
+        if not self.is_due or self.bridge.selector.failed or self.bridge.links.due:
             return
         self.is_due, program, self.program = False, self.program, ""
         why = self.objection(program)
@@ -192,6 +189,9 @@ class Succession:
             self.beside.leave()
             self.beside = None
         self.remove()
+        if self.program:
+            tell(self.operator, f"refused: bridge upgrade {self.program}: the bridge ends")
+        self.program, self.operator, self.is_due = "", None, False
 
 
 def write(state):

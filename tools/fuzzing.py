@@ -2,6 +2,7 @@
 import importlib.machinery
 import importlib.util
 import pathlib
+import re
 import selectors
 import socket
 import sys
@@ -31,11 +32,13 @@ tell.ERRORS, tell.OUTPUT = Kept(), Kept()
 
 import bridge
 import config
+import page
 import stream
 from fuzz_peers import Centre, Gateway, Operators, Stations
 from network_harness import CONFIG, KEYS, SITE
-from operators import Operator
-from stream import Lines, Selector, Stream
+from page import keeps
+from stream import Selector
+from succession import take_over
 
 # The network, a program without a suffix.
 PATH = pathlib.Path(bridge.__file__).parent / "network"
@@ -50,6 +53,10 @@ MOST_ROUNDS = 20_000
 PATIENCE = 300.0
 # How much time goes by at a step, in seconds; 0 for none.
 PAUSES = (0,) * 12 + (0.01, 0.3, 0.6, 1, 2.6, 4.1, 11)
+# One of so many steps is followed by a page, which another bridge would take (succession.py).
+PAGES = 10
+# An object in a page, by its place there, which hangs on the order of sets.
+OBJECT = re.compile(r"(?<='object': )\d+")
 # And at the end: longer than anything waits.
 LAST = 2_000
 
@@ -73,6 +80,7 @@ class Now(Selector):
         return super().select(0)
 
 
+@keeps(wired=("ears", "INPUT"))
 class Fuzzed(NETWORK.Network):
     """The bridge. No signal comes to it, and its standard input is a socket."""
 
@@ -80,12 +88,11 @@ class Fuzzed(NETWORK.Network):
         """No signal comes."""
         self.signals = socket.socketpair()
 
-    def hear_operator(self):
+    def begin(self):
         """Standard input is a socket, whose other end says nothing."""
         self.ears = socket.socketpair()
-        operator = Operator(self.relay, "operator at standard input")
-        lines = Lines(lambda line: self.turns.add(operator, line))
-        self.operator = operator.stream = Stream(self.selector, self.ears[0].fileno(), None, lines.add, lambda: None)
+        self.INPUT = self.ears[0].fileno()
+        super().begin()
 
     def rest(self):
         """Does all that is to be done now, and waits for the controller's answers."""
@@ -129,10 +136,10 @@ class Life:
         path.write_text(CONFIG.format(controller=f'["{self.program}", "live"]', timers=timers, **ports, **keys))
         control = self.room / "control"
         words = NETWORK.words_of([str(path), "--control", str(control), "--log", str(self.room / "log"), "--hang", "100000"])
-        found = config.read(path)
-        self.bridge = Fuzzed(NETWORK.with_config(words, found), found)
+        self.make = lambda: Fuzzed(NETWORK.with_config(words, found := config.read(path)), found)
+        self.bridge = self.make()
         self.bridge.start()
-        self.stations = Stations(self.chance, self.seed, self.bridge.listeners[0].getsockname()[1])
+        self.stations = Stations(self.chance, self.seed, self.bridge.listeners[bridge.STATIONS].getsockname()[1])
         self.operators = Operators(self.chance, control)
         self.peers = [self.stations] * 6 + [self.centre] * 4 + [self.gateway, self.operators]
 
@@ -156,6 +163,20 @@ class Life:
             self.go_on(self.chance.choice(PAUSES))
             if self.bridge.is_ending or self.wrong():
                 return
+            if self.chance.randrange(PAGES) == 0:
+                self.take_page()
+
+    def take_page(self):
+        """A bridge that hasn't begun takes the page of this one: what it knows then makes the same page, but for its sockets and the
+        order of sets."""
+        states, it = [], self.bridge
+        for _ in range(2):
+            states.append(it.succession.state()[0])
+            text, it = page.written(states[-1]), self.make()
+            take_over(it, page.read(text))
+        first, second = ([len(it["objects"]), *sorted(OBJECT.sub("", str(time)) for time in it["times"])] for it in states)
+        if first != second:
+            raise RuntimeError(f"the page of a bridge has {first}, that of the next one {second}")
 
     def go_on(self, seconds):
         """Lets time go by, and has all answer."""
@@ -209,7 +230,7 @@ class Life:
         if core := getattr(self.bridge, "core", None):
             core.kill()
             core.wait()
-        for it in (*self.bridge.sockets.values(), *self.bridge.listeners):
+        for it in (*self.bridge.sockets.values(), *self.bridge.listeners.values()):
             it.close()
         for peer in (self.stations, self.operators, self.centre, self.gateway) if hasattr(self, "peers") else ():
             peer.stop()
