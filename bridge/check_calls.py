@@ -1,5 +1,6 @@
 """Checks of the bridge: calls, their timers, and what stations leave open."""
 import os
+import re
 import signal
 import subprocess
 import time
@@ -561,8 +562,22 @@ def stray_while_activated(start, _room, _program):
     must(not any("no answer" in line for line in bridge.said.lines), "its answer is awaited")
 
 
+def names_of_causes(_start, room, program):
+    """The bridge calls the causes on Abis (TS 48.058 clause 9.3.26) as the program does, and knows those that have a name there."""
+    failures = [f"abis 0 0 0824010b1a01{number:02x}\n" for number in range(128)]
+    (room / "script").write_text("open 7 0 0 3\n" + "".join(failures))
+    words = [program, "run", SITE, room / "script", "--words"]
+    ran = subprocess.run(words, capture_output=True, text=True, timeout=LIMIT)
+    told = re.findall(r"^in abis 0 0 0824010b1a01(..) # call 7; .* cause=\d+; (.*)$", ran.stdout, re.M)
+    names = {int(number, 16): name for number, name in told}
+    must(list(names) == list(range(128)), f"the program tells {len(names)} causes: {ran.stdout[:300]} {ran.stderr}")
+    wanted = {number: name for number, name in names.items() if name != "reserved"}
+    must(rsl.CAUSES == wanted and len(wanted) == 33, f"the bridge has {rsl.CAUSES}, the program {wanted}")
+
+
 CHECKS = [
     a_call,
+    names_of_causes,
     a_handover,
     a_timer,
     a_timer_ends,

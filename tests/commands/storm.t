@@ -36,14 +36,14 @@ Nor on the schedule: sixteen workers on one processor, and on all, again and aga
 
 Two cells with two traffic channels each:
 
-  $ ./lab storm tests/storms/two_cells.toml --workers 1 --calls 1
+  $ ./lab storm tests/storm_sites/two_cells.toml --workers 1 --calls 1
   calls 1
   attempts 1
   completed 1
   undone 0
   channels in use 0
   audit same
-  $ ./lab storm tests/storms/two_cells.toml --workers 2 --calls 2
+  $ ./lab storm tests/storm_sites/two_cells.toml --workers 2 --calls 2
   calls 2
   attempts 2
   completed 1
@@ -53,7 +53,7 @@ Two cells with two traffic channels each:
 
 The same where a timeslot of each cell carries halves, too: a half counts as no channel.
 
-  $ sed 's/tch = \[2, 3\]/tch = [2, 3], half = [3]/' tests/storms/two_cells.toml >halves.toml
+  $ sed 's/tch = \[2, 3\]/tch = [2, 3], half = [3]/' tests/storm_sites/two_cells.toml >halves.toml
   $ grep -c half halves.toml
   2
   $ ./lab storm halves.toml --workers 2 --calls 2
@@ -89,21 +89,21 @@ The widest site, 64 cells with four TRX each: of its 31 traffic channels a cell 
 A site is too small where it has one cell, or where a cell has fewer than twice as many traffic channels as calls begin in
 one; here a call that begins in cell 0 needs a channel of cell 1, and one of cell 1 a channel of cell 0.
 
-  $ ./lab storm tests/storms/one_cell.toml --workers 1 --calls 1 2>errors
+  $ ./lab storm tests/storm_sites/one_cell.toml --workers 1 --calls 1 2>errors
   site too small
   [2]
   $ cat errors
-  tests/storms/one_cell.toml: a storm needs two cells
+  tests/storm_sites/one_cell.toml: a storm needs two cells
   $ ./lab storm examples/two_cells.toml --workers 1 --calls 1 2>errors
   site too small
   [2]
   $ cat errors
   examples/two_cells.toml: cell 1 has 1 full rate channels, and needs 2
-  $ ./lab storm tests/storms/two_cells.toml --workers 1 --calls 3 2>errors
+  $ ./lab storm tests/storm_sites/two_cells.toml --workers 1 --calls 3 2>errors
   site too small
   [2]
   $ cat errors
-  tests/storms/two_cells.toml: cell 0 has 2 full rate channels, and needs 4
+  tests/storm_sites/two_cells.toml: cell 0 has 2 full rate channels, and needs 4
   $ ./lab storm examples/eight_cells.toml --workers 16 --calls 89 2>errors
   site too small
   [2]
@@ -128,7 +128,7 @@ Files and sites are refused as by run.
   [2]
   $ cat errors
   /dev/null: handover is missing: it has to be a table
-  $ sed -z 's/tch = \[2, 3\]/tch = []/' tests/storms/two_cells.toml >refused.toml
+  $ sed -z 's/tch = \[2, 3\]/tch = []/' tests/storm_sites/two_cells.toml >refused.toml
   $ ./lab storm refused.toml --workers 1 --calls 1 2>/dev/null
   site 5 0
   [2]
