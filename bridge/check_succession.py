@@ -114,17 +114,19 @@ def upgrade_once_asked(bridge):
     bridge.ask = asked
 
 
+def by_a_signal(bridge):
+    """Another bridge takes its place, in the same processes, by a signal."""
+    before, at = (bridge.process.pid, children(bridge.process.pid)), len(bridge.said.lines)
+    bridge.process.send_signal(signal.SIGUSR2)
+    bridge.said.find(GOES_ON, at)
+    must((bridge.process.pid, children(bridge.process.pid)) == before, "its processes are others")
+
+
 def half_read(start, room, program):
-    """Half a frame of a station, half a line of the controller and of operators were read, and somebody hasn't said who he is: the
-    rest comes to the next bridge. It hears the same sockets, tells who watches, and numbers operators from there."""
+    """Half a frame of a station, and half a line of the controller and of operators were read: the rest comes to the next bridge."""
     core = (program_that(room, "halved", HALVED.format(python=sys.executable, program=program)), "live", SITE)
-    units = (FIRST + "=0/0", SECOND + "=1/1", LATE + "=1/0")
-    bridge = start("--control", "control", "--log", "log", core=core, stations=units)
-    one, other = bridge.station(FIRST), bridge.station(SECOND, trx=1)
-    late, asker, watcher = TestStation(bridge.port, None), Asker(room / "control"), Asker(room / "control")
-    must(late.await_message(lambda _stream, message: message[:1] == b"\x04"), "it isn't asked who it is")
-    watcher.ask("watch 1\nstations\n")
-    watcher.expect("^station 6971/0/0")
+    bridge = start("--control", "control", core=core)
+    one, other, asker = bridge.station(FIRST), bridge.station(SECOND, trx=1), Asker(room / "control")
     bridge.ask("open 1 0 0 3")
     bridge.expect("^in open 1 0 0 3$")
     asker.ask("help\nstati")
@@ -133,20 +135,31 @@ def half_read(start, room, program):
     bridge.process.stdin.flush()
     other.send(b"\x00\x01\xfe")
     one.settle()
-    processes = bridge.process.pid, children(bridge.process.pid)
-    bridge.process.send_signal(signal.SIGUSR2)
-    bridge.said.expect(GOES_ON)
-    must((bridge.process.pid, children(bridge.process.pid)) == processes, "its processes are others")
+    by_a_signal(bridge)
     (room / "go").touch()
     bridge.expect("^event open 1 0/0/3 -> done$", "record 0/0/3 on$")
-    watcher.expect("^event open 1 0/0/3 -> done$", "record 0/0/3 on$")
     asker.ask("ons\n")
     asker.expect("^station 6969/0/0 .*: there since ", "^station 6970/0/1 .*: there since .* links lost: 0$")
     bridge.ask("ls")
     bridge.expect("^channel 0/0/3: on for call 1 since ")
     other.send(b"\x00")
     must(other.await_message(lambda stream, message: (stream, message) == (0xFE, b"\x01")), "no answer to a ping in two parts")
-    late.unit, late.trx = LATE, 0
+    bridge.process.send_signal(signal.SIGTERM)
+    bridge.wait(0)
+
+
+def operators_stay(start, room, _program):
+    """The next bridge tells who watches, numbers operators from there, and hears the same sockets; one who hasn't said who he is says
+    so to it. That somebody has left, whose line was answered last, is no matter."""
+    bridge = start("--control", "control", "--log", "log", stations=(FIRST + "=0/0", LATE + "=1/0"))
+    one, late, watcher, asker = bridge.station(FIRST), TestStation(bridge.port, None), *(Asker(room / "control") for _ in range(2))
+    must(late.await_message(lambda _stream, message: message[:1] == b"\x04"), "it isn't asked who it is")
+    watcher.ask("watch 1\nstations\n")
+    watcher.expect("^station 6971/0/0")
+    by_a_signal(bridge)
+    asker.ask("open 1 0 0 3\n")
+    watcher.expect("^event open 1 0/0/3 -> done$", "record 0/0/3 on$")
+    late.unit = LATE
     late.take(0xFE, b"\x04")
     must(late.known.wait(LIMIT), "it isn't known that says late who it is")
     third = Asker(room / "control")
@@ -154,9 +167,7 @@ def half_read(start, room, program):
     third.expect("^event clear 1 ")
     for it in (asker, watcher, third):
         it.leave()
-    # the last line that the controller answered is of somebody who has left
-    bridge.process.send_signal(signal.SIGUSR2)
-    bridge.said.expect(GOES_ON)
+    by_a_signal(bridge)
     one.settle()
     bridge.process.send_signal(signal.SIGTERM)
     bridge.wait(0)
@@ -480,7 +491,7 @@ def a_page(start, room, program):
     bridge.end()
 
 
-CHECKS = [in_the_middle_of_a_script, half_read, the_rest_of_times, broken_pages, not_just_now, signals_wait, a_rival_waits, a_page]
-CHECKS += [ten_with_links]
+CHECKS = [in_the_middle_of_a_script, half_read, operators_stay, the_rest_of_times, broken_pages, not_just_now, signals_wait]
+CHECKS += [a_rival_waits, a_page, ten_with_links]
 OF_NETWORK = [at_each_step_of_a_call, half_of_the_centre, over_m3ua, a_hundred_in_a_row]
 OF_NETWORK += [in_a_network(a_registration), in_a_network(a_call)]

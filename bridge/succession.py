@@ -18,10 +18,11 @@ from trial import Beside
 
 # The option by which a program is given a page.
 OPTION = "--takes-over"
-# How many seconds a bridge may take to look at a page; and how long what is printed may take to be written.
-LONGEST, UNWRITTEN = 120.0, 1.0
+# How many seconds a bridge may take to look at a page; how long what is printed may take to be written; and after how many it is looked
+# again whether it is, while others have their turns.
+LONGEST, UNWRITTEN, SOON = 120.0, 30.0, 0.05
 # Times that the new bridge sets itself, as it begins or as they are wanted.
-OWN_TIMES = ("figures",)
+OWN_TIMES = ("figures", "succession")
 OWN_KINDS = ("said", "listener")
 # How many lines of a program's standard error are told.
 MOST_SAID = 20
@@ -59,19 +60,20 @@ def state_in(path):
         raise Unkept(str(error)) from error
 
 
-@keeps("operator", "asked_at", "count", wired=("bridge", "begun", "program", "path", "beside", "is_due"))
+@keeps("operator", "asked_at", wired=("bridge", "begun", "program", "path", "beside", "is_due", "until"))
 class Succession:
     """What becomes of a wish that another bridge takes this one's place."""
 
     def __init__(self, bridge, begun):
         """`begun` is how this one was begun."""
         self.bridge, self.begun = bridge, begun
-        # who is told what comes of it, None for nobody; when it was asked for; and how many times it came to that
-        self.operator, self.asked_at, self.count = None, 0.0, 0
+        # who is told what comes of it, None for nobody; and when it was asked for
+        self.operator, self.asked_at = None, 0.0
         # the program that is tried, the page that it looks at, and its process
         self.program, self.path, self.beside = "", None, None
-        # whether the program would go on, and takes this one's place once nothing is handled
-        self.is_due = False
+        # whether the program would go on, and takes this one's place once nothing is handled and all is written; and until when that
+        # may take
+        self.is_due, self.until = False, 0.0
 
     def is_awaited(self, operator):
         """Whether an operator is yet to be told what came of it."""
@@ -80,7 +82,7 @@ class Succession:
     def ask(self, operator, program=""):
         """Somebody wishes it, an operator or nobody; of the same program, where none is named."""
         program = program or self.begun.program
-        if why := self.objection(program):
+        if why := "another program is being tried" if self.program else self.objection(program):
             tell(operator, f"refused: bridge upgrade {program}: {why}")
             return
         self.operator, self.program, self.asked_at = operator, program, time.monotonic()
@@ -101,8 +103,6 @@ class Succession:
 
     def objection(self, program):
         """Why another bridge can't take this one's place just now; None where that can be tried."""
-        if self.program:
-            return "another program is being tried"
         if not shutil.which(program):
             return "no program that can be run"
         if self.bridge.is_ending:
@@ -120,7 +120,7 @@ class Succession:
         elif status:
             self.refuse("; ".join(said[-1:]) or f"it ended with status {status}")
         else:
-            self.is_due = True
+            self.is_due, self.until = True, time.monotonic() + UNWRITTEN
 
     def refuse(self, why):
         """This bridge goes on."""
@@ -146,20 +146,20 @@ class Succession:
         """Nothing is handled now: the program takes this one's place, if that is so far."""
         if not self.is_due or self.bridge.selector.failed or self.bridge.links.due:
             return
-        self.is_due, program, self.program = False, self.program, ""
-        why = self.objection(program)
-        self.program = program
-        if why or (why := unwritten()):
+        if (text := unwritten()) and time.monotonic() < self.until:
+            self.bridge.times.set("succession", SOON, lambda: None)
+            return
+        self.is_due = False
+        if why := self.objection(self.program) or text:
             self.refuse(why)
             return
         try:
-            self.become(program)
+            self.become(self.program)
         except (OSError, Unkept) as error:
             self.refuse(str(error))
 
     def become(self, program):
         """The process becomes the program. It comes back only where that fails."""
-        self.count += 1
         state, files = self.state()
         self.path = write(state)
         before = signal.pthread_sigmask(signal.SIG_BLOCK, SIGNALS)
@@ -169,7 +169,6 @@ class Succession:
             path = shutil.which(program)
             os.execv(path, [program, OPTION, self.path, *self.begun.words])
         finally:
-            self.count -= 1
             for number in files:
                 os.set_inheritable(number, False)
             signal.pthread_sigmask(signal.SIG_SETMASK, before)
@@ -210,8 +209,6 @@ def kept_times(times):
     """The times that stand in a page, each with its moment."""
     for name, at in times.moments().items():
         kind = name[0] if isinstance(name, tuple) else name
-        if kind == "succession" or kind[0] == "succession":
-            continue
         if kind not in OWN_TIMES and kind not in OWN_KINDS:
             yield name, at
 
@@ -236,8 +233,8 @@ def opened(number):
 
 
 def unwritten():
-    """What hasn't been written of what is printed, and waits for a reader, in words; None where all is, or is before long."""
-    end = time.monotonic() + UNWRITTEN
+    """What isn't written yet of what is printed, in words; None where all is, or is at once."""
+    end = time.monotonic() + SOON
     for writer, name in ((OUTPUT, "standard output"), (ERRORS, "standard error")):
         while writer.waiting() and time.monotonic() < end:
             time.sleep(0.001)
