@@ -13,8 +13,10 @@ use Rattle.encoded_messages.specs.FieldFaults.{◌>>=◌, ◌>>◌, read_map}
 use Rattle.lab_script.specs.Forms.{form_named}
 use Rattle.lab_script.specs.Script.{is_comment, is_blank}
 use Rattle.lab_script.specs.Words.{first_word, behind_word}
+use Rattle.link_exchange.specs.declared.LinkInput.{LinkInput}
 use Rattle.link_exchange.specs.declared.LinkInput.TheVariants as input
 use Rattle.link_exchange.specs.declared.TimerKey.{TimerKey}
+use Rattle.link_exchange.specs.declared.TimerKey.TheVariants as key
 use Rattle.link_lines.specs.declared.fault.Place.{Place}
 use Rattle.link_lines.specs.declared.fault.Place.TheVariants as place
 use Rattle.link_lines.specs.declared.reading.LinkLine.{LinkLine}
@@ -30,20 +32,20 @@ use Rattle.link_lines.proofs.ScriptFacts.{abis_read, a_read, open_read, undo_rea
 -- a line that isn't passed over
 told : {A : Type 0} (text : List ℕ) (read : Read (LinkLine A)) → (is_comment text || is_blank text) ≡ false → words_in text ≡ read → line_of text ≡ read
 unfolding line_of
-told text read no e = rw (no, e) refl
+told text read told_of e = rw (told_of, e) refl
 
 -- by its first word, and by what stands behind that
 words_read : {A : Type 0} (word rest : List ℕ) (read : Read (LinkLine A)) → (is_comment (word ++ 32 ∷ rest) || is_blank (word ++ 32 ∷ rest)) ≡ false → Lacks 32 word
     → words_by word (Some rest) (word ++ 32 ∷ rest) ≡ read → line_of (word ++ 32 ∷ rest) ≡ read
 unfolding words_in
-words_read word rest read no lacks found =
-    told (word ++ 32 ∷ rest) read no (ap (λ w. words_by w (behind_word (word ++ 32 ∷ rest)) (word ++ 32 ∷ rest)) (word_first word rest lacks)
+words_read word rest read told_of lacks found =
+    told (word ++ 32 ∷ rest) read told_of (ap (λ w. words_by w (behind_word (word ++ 32 ∷ rest)) (word ++ 32 ∷ rest)) (word_first word rest lacks)
     ∙ (ap (λ r. words_by word r (word ++ 32 ∷ rest)) (word_behind word rest lacks) ∙ found))
 
 word_read : {A : Type 0} (word : List ℕ) (read : Read (LinkLine A)) → (is_comment word || is_blank word) ≡ false → Lacks 32 word → words_by word None word ≡ read → line_of word ≡ read
 unfolding words_in
-word_read word read no lacks found =
-    told word read no (ap (λ w. words_by w (behind_word word) word) (last_first word lacks) ∙ (ap (λ r. words_by word r word) (last_behind word lacks) ∙ found))
+word_read word read told_of lacks found =
+    told word read told_of (ap (λ w. words_by w (behind_word word) word) (last_first word lacks) ∙ (ap (λ r. words_by word r word) (last_behind word lacks) ∙ found))
 
 -- BEHIND THE FIRST WORD
 
@@ -109,13 +111,17 @@ only_last : (place : Place) (word : List ℕ) → Lacks 32 word → only_at plac
 unfolding only_at
 only_last place word lacks = rw (last_first word lacks, last_behind word lacks, same_word word) refl
 
-set_by : {A : Type 0} (rest : List ℕ) → rest ≡ codes "commands" ++ 32 ∷ codes "bridge" → set_in {A = A} (Some rest) ≡ Ok input.BridgeCommands
+-- what is set, by what was read of it
+abbrev set_last : {A : Type 0} → Read (Option (List ℕ)) → Read (LinkInput A)
+set_last read = read >>= (λ rest. end_at rest >> Ok input.BridgeCommands)
+
+abbrev set_first : {A : Type 0} → Read (Option (List ℕ)) → Read (LinkInput A)
+set_first read = read >>= (λ rest. set_last (only_at place.Setter (codes "bridge") rest))
+
+set_read : {A : Type 0} → set_in {A = A} (Some (codes "commands" ++ 32 ∷ codes "bridge")) ≡ Ok input.BridgeCommands
 unfolding set_in
-set_by rest is = rw (is) (chain (only_at place.Setting (codes "commands") (Some (codes "commands" ++ 32 ∷ codes "bridge"))) (only_step place.Setting (codes "commands") (codes "bridge") refl))
-  where
-    chain : {A : Type 0} (one : Read (Option (List ℕ))) → one ≡ Ok (Some (codes "bridge"))
-        → (one >>= (λ more. only_at place.Setter (codes "bridge") more >>= (λ last. end_at last >> Ok (input.BridgeCommands {A = A})))) ≡ Ok input.BridgeCommands
-    chain {A = A} one e = rw (e, only_last place.Setter (codes "bridge") refl) refl
+set_read {A = A} =
+    ap (set_first {A = A}) (only_step place.Setting (codes "commands") (codes "bridge") refl) ∙ ap (set_last {A = A}) (only_last place.Setter (codes "bridge") refl)
 
 -- MESSAGES
 
@@ -137,7 +143,7 @@ a_message call octets of some = message_read (codes "a") (decimal call ++ 32 ∷
 scripted : {A : Type 0} (word rest : List ℕ) (i : Inbound A) → (is_comment (word ++ 32 ∷ rest) || is_blank (word ++ 32 ∷ rest)) ≡ false → Lacks 32 word
     → words_by {A = A} word (Some rest) (word ++ 32 ∷ rest) ≡ given (read_map as_came (script_in (word ++ 32 ∷ rest))) → script_in (word ++ 32 ∷ rest) ≡ Ok i
     → line_of (word ++ 32 ∷ rest) ≡ Ok (line.Input (as_came i))
-scripted word rest i no lacks found read = words_read word rest _ no lacks (found ∙ ap (λ r. given (read_map as_came r)) read)
+scripted word rest i told_of lacks found read = words_read word rest _ told_of lacks (found ∙ ap (λ r. given (read_map as_came r)) read)
 
 operators_read : {A : Type 0} (l : Line) → FitsOperators l → line_of {A = A} (operators_text l) ≡ Ok (line.Input (input.Operator l))
 unfolding form_named
@@ -162,11 +168,12 @@ reads_texts (input.ForAbis cell trx octets) f = words_read (codes "for") (line_t
 reads_texts (input.ForA call octets) f = words_read (codes "for") (line_text (a_words call octets)) _ refl refl (ap (λ r. given (read_map in_place r)) (a_message call octets f.0 f.1))
 reads_texts (input.SendAbis cell trx octets) f = words_read (codes "send") (line_text (abis_words cell trx octets)) _ refl refl (ap (λ r. given (read_map as_sent r)) (abis_message cell trx octets f.0 f.1))
 reads_texts (input.SendA call octets) f = words_read (codes "send") (line_text (a_words call octets)) _ refl refl (ap (λ r. given (read_map as_sent r)) (a_message call octets f.0 f.1))
-reads_texts (input.Expired k) f = words_read (codes "expired") (key_text k) _ refl refl (ap given (expired_read k f))
+reads_texts (input.Expired (key.Call call t)) f = words_read (codes "expired") (key_text (key.Call call t)) _ refl refl (ap given (expired_read (key.Call call t) f))
+reads_texts (input.Expired (key.Channel x t)) f = words_read (codes "expired") (key_text (key.Channel x t)) _ refl refl (ap given (expired_read (key.Channel x t) f))
 reads_texts (input.Operator l) f = operators_read l f
 reads_texts (input.Bar x) f = words_read (codes "bar") (channel_text x) _ refl refl (ap given (bar_read x f))
 reads_texts (input.Unbar x) f = words_read (codes "unbar") (channel_text x) _ refl refl (ap given (unbar_read x f))
 reads_texts (input.Away call is) f = words_read (codes "away") (decimal call ++ 32 ∷ switch_word is) _ refl refl (ap given (away_read call is f))
 reads_texts (input.Reports call are) f = words_read (codes "reports") (decimal call ++ 32 ∷ switch_word are) _ refl refl (ap given (reports_read call are f))
 reads_texts (input.Advance call n) f = words_read (codes "advance") (decimal call ++ 32 ∷ decimal n) _ refl refl (ap given (advance_read call n f.0 f.1))
-reads_texts input.BridgeCommands f = words_read (codes "set") (codes "commands" ++ 32 ∷ codes "bridge") _ refl refl (ap given (set_by _ refl))
+reads_texts input.BridgeCommands f = words_read (codes "set") (codes "commands" ++ 32 ∷ codes "bridge") _ refl refl (ap given set_read)

@@ -45,11 +45,11 @@ octet_last place n f =
 
 station_step : (cell trx : ℕ) (rest : List ℕ) → FitsStation cell trx → station_at (Some (decimal cell ++ 32 ∷ (decimal trx ++ 32 ∷ rest))) ≡ Ok ((cell, trx), Some rest)
 unfolding station_at
-station_step cell trx rest f = rw (octet_step _ cell (decimal trx ++ 32 ∷ rest) f.cell, octet_step _ trx rest f.trx) refl
+station_step cell trx rest f = rw (octet_step _ cell (decimal trx ++ 32 ∷ rest) f.0, octet_step _ trx rest f.1) refl
 
 pub station_last : (cell trx : ℕ) → FitsStation cell trx → station_at (Some (decimal cell ++ 32 ∷ decimal trx)) ≡ Ok ((cell, trx), None)
 unfolding station_at
-station_last cell trx f = rw (octet_step _ cell (decimal trx) f.cell, octet_last _ trx f.trx) refl
+station_last cell trx f = rw (octet_step _ cell (decimal trx) f.0, octet_last _ trx f.1) refl
 
 slot_last : (x : ChanId) → FitsChannel x → timeslot_at (Some (timeslot_text x.tn x.sub)) ≡ Ok ((x.tn, x.sub), None)
 unfolding timeslot_at
@@ -60,8 +60,7 @@ slot_last x f =
 pub channel_last : (x : ChanId) → FitsChannel x → channel_at (Some (channel_text x)) ≡ Ok (x, None)
 unfolding channel_at
 channel_last x f =
-    let at : FitsStation x.cell x.trx = record { cell = f.cell; trx = f.trx } in
-    rw (station_step x.cell x.trx (timeslot_text x.tn x.sub) at, slot_last x f) refl
+    rw (station_step x.cell x.trx (timeslot_text x.tn x.sub) (f.cell, f.trx), slot_last x f) refl
 
 switch_by : (w : List ℕ) (is_on : Bool) → Lacks 32 w → switch_of w ≡ Some is_on → switch_at (Some w) ≡ Ok (is_on, None)
 unfolding switch_at

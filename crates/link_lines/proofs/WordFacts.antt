@@ -1,23 +1,24 @@
 -- Words and numbers: what is written is read.
-use Rattle.std.proofs.Common.{◌≡◌, ℕ, ◌+◌, ◌*◌, ◌<◌, ◌≤◌, ◌^◌, ◌==◌, ◌||◌, ◌&&◌, List, [], ◌∷◌, ◌++◌, Bool, true, false, Option, Some, None, Ok, refl, sym, ap, ◌∙◌, arith, rules, length, length-append, take, drop, nat_lt, codes}
+use Rattle.std.proofs.Common.{◌≡◌, ◌⊎◌, inl, inr, ℕ, zero, suc, ◌+◌, ◌*◌, ◌/◌, ◌%◌, ◌<◌, ◌≤◌, ◌^◌, ◌==◌, ◌||◌, ◌&&◌, List, [], ◌∷◌, ◌++◌, Bool, true, false, Option, Some, None, Ok, refl, sym, ap, ◌∙◌, arith, rules, length, length-append, get_or, slice_index, take, drop, nat_lt, codes}
 use Rattle.std.proofs.Math.Seq.{take-length, take-append_seam, drop-append-add}
-use Rattle.std.proofs.lemmas.Bool.{and_parts}
+use Rattle.std.proofs.lemmas.Bool.{and_parts, cases_lt, eqb-true}
 use Rattle.std.proofs.lemmas.Bool.Decides.{Decides-ltb}
 use Rattle.std.proofs.lemmas.Fmt.{digits_decimal, digits_value-decimal, decimal_nonempty}
 use Rattle.std.proofs.lemmas.Str.Parse.{IsNumeralModel, numerals_by_value}
 use Rattle.std.specs.Char.{is_ascii_digit}
-use Rattle.std.specs.Fmt.{decimal}
-use Rattle.std.specs.List.{list_all, list_any, position_or_len}
+use Rattle.std.specs.Fmt.{decimal, digit_glyph}
+use Rattle.std.specs.List.{list_all, list_any, flat_map, position_or_len}
+use Rattle.std.proofs.lemmas.List.{flat_map_more, take_more}
 use Rattle.std.specs.Result.{result_ok}
 use Rattle.std.specs.Str.Parse.{digits_value}
-use Rattle.hex.specs.Hex.{IsBytes, decode_of, encode_lower, lower_digits}
+use Rattle.hex.specs.Hex.{IsBytes, decode_of, encode_lower, encode_with, lower_digits}
 use Rattle.hex.proofs.HexLemmas.{decode_of-encode_lower, length-encode_with}
 use Rattle.timeslots.specs.declared.Sub.{Sub}
 use Rattle.timeslots.specs.declared.Sub.TheVariants.{Full, Half0, Half1}
 use Rattle.channel_fsm.specs.Text.{timeslot_text}
 use Rattle.encoded_messages.specs.Words.{Lacks}
 use Rattle.lab_script.specs.Words.{first_word, behind_word, number_below, octets_of, around_slash, timeslot_of}
-use Rattle.link_lines.specs.Text.{hex_text}
+use Rattle.link_lines.specs.Text.{hex_octet, hex_text}
 
 -- CUTS
 
@@ -119,8 +120,41 @@ timeslot_read tn Half1 f = rw (slash_cut (decimal tn) (codes "1") (decimal_lacks
 
 -- OCTETS
 
+-- the digits of a table are those that are written
+same_at : ℕ → Bool
+same_at d = digit_glyph false d == slice_index lower_digits d
+
+all_same : ℕ → Bool
+all_same zero = true
+all_same (suc n) = same_at n && all_same n
+
+digit_by : (n k : ℕ) → all_same n ≡ true → k < n → same_at k ≡ true
+digit_by zero k h l = absurd (omega arith)
+digit_by (suc n) k h l =
+    let parts = and_parts (same_at n) (all_same n) h in
+    elim (cases_lt k n) [
+      | inl below ↦ digit_by n k parts.1 below
+      | inr top ↦
+          let e : k ≡ n = omega arith in
+          rw e parts.0
+    ]
+
+digit_is : (d : ℕ) → d < 16 → digit_glyph false d ≡ slice_index lower_digits d
+digit_is d l = eqb-true (digit_glyph false d) (slice_index lower_digits d) (digit_by 16 d refl l)
+
+hex_is : (octets : List ℕ) → IsBytes octets → hex_text octets ≡ encode_lower octets
+unfolding encode_with
+hex_is [] bytes = refl
+hex_is (octet ∷ octets) bytes =
+    let small : octet < 256 = bytes 0 in
+    rw (digit_is (octet / 16) (omega arith), digit_is (octet % 16) (omega arith), hex_is octets (λ i. bytes (suc i))) refl
+
 pub hex_read : (octets : List ℕ) → IsBytes octets → 0 < length octets → octets_of (hex_text octets) ≡ Some octets
 hex_read octets bytes some =
     let long : length (encode_lower octets) ≡ 2 * length octets = length-encode_with lower_digits octets in
-    let no : (length (encode_lower octets) == 0) ≡ false = grind (arith, long, some) in
-    rw (no, decode_of-encode_lower octets bytes) refl
+    let filled : (length (encode_lower octets) == 0) ≡ false = grind (arith, long, some) in
+    rw (hex_is octets bytes, filled, decode_of-encode_lower octets bytes) refl
+
+-- what is written of one octet more
+pub one_more : (octets : List ℕ) (i : ℕ) → i < length octets → flat_map hex_octet (take i octets) ++ hex_octet (get_or octets i 0) ≡ flat_map hex_octet (take (i + 1) octets)
+one_more octets i l = flat_map_more hex_octet [] (take i octets) (get_or octets i 0) ∙ ap (flat_map hex_octet) (sym (take_more octets i 0 l))

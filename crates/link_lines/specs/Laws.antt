@@ -26,9 +26,8 @@ pub record FitsMessage (octets : List ℕ) : Type 0 where
   pub bytes : IsBytes octets
   pub some : 0 < length octets
 
-pub record FitsStation (cell trx : ℕ) : Type 0 where
-  pub cell : cell < 256
-  pub trx : trx < 256
+abbrev pub FitsStation : ℕ → ℕ → Type 0
+FitsStation cell trx = (cell < 256) × (trx < 256)
 
 abbrev pub FitsKey : TimerKey → Type 0
 FitsKey (key.Call call t) = FitsCall call

@@ -1,8 +1,7 @@
 -- How an input is written. A text is the list of its bytes. Ours, of no standard.
-use Rattle.std.specs.Prelude.{ℕ, Bool, true, false, List, [], ◌∷◌, ◌++◌, codes}
-use Rattle.std.specs.Fmt.{decimal}
-use Rattle.std.specs.List.{join_with_byte}
-use Rattle.hex.specs.Hex.{encode_lower}
+use Rattle.std.specs.Prelude.{ℕ, ◌/◌, ◌%◌, Bool, true, false, List, [], ◌∷◌, codes}
+use Rattle.std.specs.Fmt.{decimal, digit_glyph}
+use Rattle.std.specs.List.{flat_map, join_with_byte}
 use Rattle.attempt_journal.specs.declared.Timer.{Timer}
 use Rattle.attempt_journal.specs.declared.Timer.TheVariants as of_call
 use Rattle.channel_fsm.specs.declared.ChanId.{ChanId}
@@ -23,8 +22,11 @@ abbrev pub line_text : List (List ℕ) → List ℕ
 line_text words = join_with_byte 32 words
 
 -- octets, each in two small hexadecimal digits
+abbrev pub hex_octet : ℕ → List ℕ
+hex_octet octet = digit_glyph false (octet / 16) ∷ digit_glyph false (octet % 16) ∷ []
+
 abbrev pub hex_text : List ℕ → List ℕ
-hex_text octets = encode_lower octets
+hex_text octets = flat_map hex_octet octets
 
 -- CELL TRX TN
 abbrev pub channel_words : ChanId → List (List ℕ)

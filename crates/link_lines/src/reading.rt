@@ -251,7 +251,7 @@ fn as_sent<A: Allocator>(input: Inbound<A>) -> LinkInput<A>
 fn given<A: Allocator>(
     read: Result<LinkInput<A>, LineFault<'_>>,
 ) -> Result<LinkLine<A>, LineFault<'_>>
-    ensures { read_of result ≡ said.given (read_of read) }
+    ensures { read_of result ≡ said.given (read_of read.entry) }
 {
     match read {
         Ok(input) => Ok(LinkLine::Input(input)),

@@ -18,7 +18,8 @@ impl fmt::Display for HexText<'_> {
     ghost output = { λ text. Some (hex_text text.0.now) };
 
     fn fmt<W: fmt::Write>(&self, f: &mut fmt::Formatter<W>) -> fmt::Result {
-        for octet in self.0 {
+        let octets = self.0;
+        for octet in octets {
             write!(f, "{octet:02x}")?;
         }
         Ok(())

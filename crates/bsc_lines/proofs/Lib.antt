@@ -1,0 +1,2 @@
+-- what lines say, one after another
+pub mod LineFacts
