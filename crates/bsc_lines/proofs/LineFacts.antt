@@ -83,7 +83,7 @@ follows_next {A = A} (Some octets) (Some ys) next begun before after (left, is, 
       behind_line ys,
       behind,
       all ∙ (ap (λ (l : List (LinkLine A)). before ++ l) rest
-      ∙ (sym (append_assoc before (given_at (first_line ys)) (lines_in (behind_line ys))) ∙ ap (λ (l : List (LinkLine A)). l ++ lines_in (behind_line ys)) (sym takes))),
+          ∙ (sym (append_assoc before (given_at (first_line ys)) (lines_in (behind_line ys))) ∙ ap (λ (l : List (LinkLine A)). l ++ lines_in (behind_line ys)) (sym takes))),
     )
 
 -- no line is left

@@ -100,13 +100,7 @@ fn bar_octet(bar: Option<BarNote>) -> u8
 {
     match bar {
         None => 0,
-        Some(bar) => {
-            if bar.is_lasting {
-                2
-            } else {
-                1
-            }
-        }
+        Some(bar) => { if bar.is_lasting { 2 } else { 1 } }
     }
 }
 
@@ -182,7 +176,10 @@ fn append_elements<A: Allocator>(note: ChannelNote, out: &mut Vec<u8, A>)
 const CHANNEL_LEN: usize = 15;
 
 /// Appends what is noted of a channel. A list with room for it is not moved: no memory is asked for.
-pub fn append_channel<A: Allocator>(note: ChannelNote, out: &mut Vec<u8, A>) -> Result<(), AllocError>
+pub fn append_channel<A: Allocator>(
+    note: ChannelNote,
+    out: &mut Vec<u8, A>,
+) -> Result<(), AllocError>
     ensures appends { Appends (channel_text note) out.old out.new result }
 {
     make_room(out, CHANNEL_LEN)?;
