@@ -68,6 +68,10 @@ it says.
   summary all            1 in DATA INDICATION
   summary all            1 out RF CHANNEL RELEASE
   summary all            1 in RF CHANNEL RELEASE ACK
+  summary cell 1         1 out CHANNEL ACTIVATION
+  summary cell 1         1 in CHANNEL ACTIVATION ACK
+  summary cell 1         1 out RF CHANNEL RELEASE
+  summary cell 1         1 in RF CHANNEL RELEASE ACK
 
 What is said in another's place is an input, which needs its end behind it; and it has to be one.
 

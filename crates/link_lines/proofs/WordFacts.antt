@@ -3,7 +3,7 @@ use Rattle.std.proofs.Common.{◌≡◌, ◌⊎◌, inl, inr, ℕ, zero, suc, �
 use Rattle.std.proofs.Math.Seq.{take-length, take-append_seam, drop-append-add}
 use Rattle.std.proofs.lemmas.Bool.{and_parts, cases_lt, eqb-true}
 use Rattle.std.proofs.lemmas.Bool.Decides.{Decides-ltb}
-use Rattle.std.proofs.lemmas.Fmt.{digits_decimal, digits_value-decimal, decimal_nonempty}
+use Rattle.std.proofs.lemmas.Fmt.{digits_decimal, digits_value-decimal, decimal_nonempty, hex_byte}
 use Rattle.std.proofs.lemmas.Str.Parse.{IsNumeralModel, numerals_by_value}
 use Rattle.std.specs.Char.{is_ascii_digit}
 use Rattle.std.specs.Fmt.{decimal, digit_glyph}
@@ -121,10 +121,10 @@ timeslot_read tn Half1 f = rw (slash_cut (decimal tn) (codes "1") (decimal_lacks
 -- OCTETS
 
 -- the digits of a table are those that are written
-same_at : ℕ → Bool
+abbrev same_at : ℕ → Bool
 same_at d = digit_glyph false d == slice_index lower_digits d
 
-all_same : ℕ → Bool
+abbrev all_same : ℕ → Bool
 all_same zero = true
 all_same (suc n) = same_at n && all_same n
 
@@ -147,7 +147,7 @@ unfolding encode_with
 hex_is [] bytes = refl
 hex_is (octet ∷ octets) bytes =
     let small : octet < 256 = bytes 0 in
-    rw (digit_is (octet / 16) (omega arith), digit_is (octet % 16) (omega arith), hex_is octets (λ i. bytes (suc i))) refl
+    rw (hex_byte false octet small, digit_is (octet / 16) (omega arith), digit_is (octet % 16) (omega arith), hex_is octets (λ i. bytes (suc i))) refl
 
 pub hex_read : (octets : List ℕ) → IsBytes octets → 0 < length octets → octets_of (hex_text octets) ≡ Some octets
 hex_read octets bytes some =
@@ -156,5 +156,5 @@ hex_read octets bytes some =
     rw (hex_is octets bytes, filled, decode_of-encode_lower octets bytes) refl
 
 -- what is written of one octet more
-pub one_more : (octets : List ℕ) (i : ℕ) → i < length octets → flat_map hex_octet (take i octets) ++ hex_octet (get_or octets i 0) ≡ flat_map hex_octet (take (i + 1) octets)
+pub one_more : (octets : List ℕ) (i : ℕ) → i < length octets → hex_text (take i octets) ++ hex_octet (get_or octets i 0) ≡ hex_text (take (i + 1) octets)
 one_more octets i l = flat_map_more hex_octet [] (take i octets) (get_or octets i 0) ∙ ap (flat_map hex_octet) (sym (take_more octets i 0 l))

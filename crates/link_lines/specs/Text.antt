@@ -1,6 +1,6 @@
 -- How an input is written. A text is the list of its bytes. Ours, of no standard.
-use Rattle.std.specs.Prelude.{ℕ, ◌/◌, ◌%◌, Bool, true, false, List, [], ◌∷◌, codes}
-use Rattle.std.specs.Fmt.{decimal, digit_glyph}
+use Rattle.std.specs.Prelude.{ℕ, ◌-◌, ◌^◌, Bool, true, false, List, [], ◌∷◌, codes}
+use Rattle.std.specs.Fmt.{decimal, digits, padded_integral, format_spec}
 use Rattle.std.specs.List.{flat_map, join_with_byte}
 use Rattle.attempt_journal.specs.declared.Timer.{Timer}
 use Rattle.attempt_journal.specs.declared.Timer.TheVariants as of_call
@@ -21,9 +21,9 @@ use Rattle.link_exchange.specs.declared.TimerKey.TheVariants as key
 abbrev pub line_text : List (List ℕ) → List ℕ
 line_text words = join_with_byte 32 words
 
--- octets, each in two small hexadecimal digits
+-- octets, each in two small hexadecimal digits, as `{:02x}` writes them
 abbrev pub hex_octet : ℕ → List ℕ
-hex_octet octet = digit_glyph false (octet / 16) ∷ digit_glyph false (octet % 16) ∷ []
+hex_octet octet = padded_integral (format_spec 32 0 4 2 (2 ^ 64 - 1)) false [] (digits 16 false octet)
 
 abbrev pub hex_text : List ℕ → List ℕ
 hex_text octets = flat_map hex_octet octets

@@ -1,6 +1,6 @@
 //! Lines, written.
 ghost use Rattle.std.specs.Prelude.{Some};
-ghost use Rattle.link_lines.specs.Text.{hex_text, channel_text, call_timer, channel_timer, key_text, rate_word, operators_text, switch_word, up_word, input_text};
+ghost use Rattle.link_lines.specs.Text.{hex_octet, hex_text, channel_text, call_timer, channel_timer, key_text, rate_word, operators_text, switch_word, up_word, input_text};
 
 use attempt_journal::Timer;
 use channel_fsm::{ChanId, Rate, Sub};
@@ -9,6 +9,18 @@ use link_exchange::{LinkInput, LinkOutput, TimerKey, Why};
 use link_tables::Timer as ChannelTimer;
 use std::alloc::Allocator;
 use std::fmt;
+
+/// An octet as two small hexadecimal digits.
+#[derive(Clone, Copy)]
+struct HexOctet(u8);
+
+impl fmt::Display for HexOctet {
+    ghost output = { λ text. Some (hex_octet text.0) };
+
+    fn fmt<W: fmt::Write>(&self, f: &mut fmt::Formatter<W>) -> fmt::Result {
+        write!(f, "{:02x}", self.0)
+    }
+}
 
 /// Octets, each as two small hexadecimal digits.
 #[derive(Clone, Copy)]
@@ -20,7 +32,7 @@ impl fmt::Display for HexText<'_> {
     fn fmt<W: fmt::Write>(&self, f: &mut fmt::Formatter<W>) -> fmt::Result {
         let octets = self.0;
         for octet in octets {
-            write!(f, "{octet:02x}")?;
+            write!(f, "{}", HexOctet(*octet))?;
         }
         Ok(())
     }
