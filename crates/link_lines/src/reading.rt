@@ -148,6 +148,7 @@ fn input_of<A: Allocator>(item: Option<Item<A>>) -> Option<Inbound<A>>
         Given::HangUp(_) => None,
         Given::Ask(_) => None,
         Given::MobileOf { .. } => None,
+        Given::Restart(_) => None,
     }
 }
 
