@@ -324,7 +324,7 @@ lanes. A page has lanes for the stations that do something on it. (Headings have
   $ for page in 1 2; do grep -o '<text.*>call 1<' long-$page.svg; done
   <text x="208" y="204" text-anchor="end">call 1<
   <text x="240" y="84" text-anchor="start">call 1<
-  $ for page in 1 2; do cp long-$page.svg run.svg; python3 arrows.py | head -n 1; done
+  $ for page in 1 2; do cp long-$page.svg run.svg; python3 arrows.py | sed -n 1p; done
   station 0, station 1, controller, switching centre
   station 1, controller, switching centre
 
