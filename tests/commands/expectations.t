@@ -1011,6 +1011,7 @@ run and record go by the sites that they are given, and say where a script names
   $ ./lab record town/peer.toml town/both.txt --peer examples/two_cells.toml 2>&1 >/dev/null
   town/both.txt:1: names the site town/own.toml, and is run over town/peer.toml
   town/both.txt:2: names the peer town/peer.toml, and is run beside examples/two_cells.toml
+  town/both.txt:3: nothing comes of it: the site has no channel 0/0/3
   $ ./lab record examples/two_cells.toml town/two.txt 2>&1 >/dev/null
   town/two.txt:1: names the peer town/peer.toml, and is run without one
   $ ./lab run examples/two_cells.toml town/none.txt --audit 2>&1 >/dev/null
@@ -1048,6 +1049,7 @@ Records in words, and with what the books hold. An echo with nothing behind it, 
   #= old
   $ printf 'sim\nopen 1 0 0 3\nhandover 1 200\nundo 1\n' >script.txt
   $ ./lab record examples/two_cells.toml script.txt --words >recorded.txt
+  script.txt:3: nothing comes of it: the site has no cell 200
   $ grep '^#> in ' recorded.txt
   #> in abis 0 0 CHANNEL ACTIVATION ACK tn=3 frame=0
   #> in handover 1 200

@@ -380,6 +380,8 @@ Octets about a half that is no channel of the site, or that are cut:
 
   $ printf 'abis 0 0 08220112080000\nabis 9 9 0822011b080000\nabis 0 0 0822011b0800\nabis 0 0 08220123080000\n' >octets.txt
   $ ./lab run examples/half_rate.toml octets.txt
+  octets.txt:1: nothing comes of it: the site has no channel 0/0/2/0
+  octets.txt:2: nothing comes of it: the site has no cell 9
   in abis 0 0 08220112080000
   event confirm 0/0/2/0 -> refused 8 0/0/2/0
   in abis 9 9 0822011b080000
@@ -394,6 +396,7 @@ A timeslot that isn't in half has no halves, nor has a line with what is no half
 
   $ printf 'open 1 0 0 2/0\n' >two.txt
   $ ./lab run examples/half_rate.toml two.txt
+  two.txt:1: nothing comes of it: the site has no channel 0/0/2/0
   in open 1 0 0 2/0
   event open 1 0/0/2/0 -> refused 4
   end channels=0 calls=0 references=0 timers=0

@@ -38,6 +38,7 @@ the book. If all that is expected is that something doesn't come, the script isn
   absent.txt:18: nothing comes of it: there is no call 11
   absent.txt:20: nothing comes of it: there is no call 11
   absent.txt:22: nothing comes of it: there is no call 11
+  [1]
   $ ./lab test examples/two_cells.toml absent.txt 2>/dev/null
   1..1
   not ok 1 - absent.txt

@@ -219,6 +219,7 @@ One that waits for a later activation is used by that.
 
   $ printf 'sim\nhold 0 0 3\nrefuse 0 0 3\nopen 1 0 0 3\nclear 1\nopen 1 0 0 3\n' >later.txt
   $ ./lab run examples/two_cells.toml later.txt 2>&1 >/dev/null
+  later.txt:5: nothing comes of it: there is no call 1
 
 A cut is used up by the next answer, also by one that isn't longer: nothing comes of it then.
 

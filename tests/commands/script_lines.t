@@ -18,7 +18,7 @@ that of the second controller behind `2:`, and what is asked of the book for it.
   > abis 255 1 CHANNEL ACTIVATION NACK cause=32 tn=3/1
   > 2: a 7 CLEAR COMMAND cause=9
   > END
-  $ ./lab run examples/two_cells.toml script.txt --peer examples/one_cell.toml
+  $ ./lab run examples/two_cells.toml script.txt --peer examples/one_cell.toml 2>errors
   1: in open 1 255 254 7
   1: event open 1 255/254/7 -> refused 4
   1: in handover 2 255
@@ -51,6 +51,22 @@ that of the second controller behind `2:`, and what is asked of the book for it.
   2: out a 7 000121
   1: end channels=0 calls=0 references=0 timers=0
   2: end channels=0 calls=0 references=0 timers=0
+
+Where nothing could come of one, standard error says why.
+
+  $ cat errors
+  script.txt:3: nothing comes of it: the site has no channel 255/254/7
+  script.txt:4: nothing comes of it: the site has no cell 255
+  script.txt:5: nothing comes of it: there is no call 65535
+  script.txt:6: nothing comes of it: there is no call 0
+  script.txt:7: nothing comes of it: there is no call 1
+  script.txt:8: nothing comes of it: there is no call 1
+  script.txt:9: nothing comes of it: there is no call 2
+  script.txt:10: nothing comes of it: the site has no cell 255
+  script.txt:12: nothing comes of it: the site has no channel 0/1/7/0
+  script.txt:13: nothing comes of it: the site has no channel 0/1/0/1
+  script.txt:14: nothing comes of it: the site has no cell 6
+  script.txt:16: nothing comes of it: the site has no cell 255
 
 Lines for the simulators give no input but what comes of them; which channel each is about is said, where the site has none.
 

@@ -278,7 +278,7 @@ So is it where the audit differs, which is printed as well.
 
 So is one behind a chart of over 8 KiB.
 
-  $ for number in $(seq 300); do echo handover 1 99; done >script.txt
+  $ for number in $(seq 300); do printf 'handover 1 99\n#- idle\n'; done >script.txt
   $ ./lab run examples/two_cells.toml script.txt --pcap run.pcap --chart /dev/full >printed
   /dev/full: no space left* (glob)
   [2]
