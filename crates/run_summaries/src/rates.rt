@@ -81,7 +81,7 @@ pub(crate) fn rate_of<A: Allocator>(summary: &Summary<A>, scope: Scope, tried: T
     }
 }
 
-/// How often one report came, and how often another.
+/// The attempts within this controller from one cell to another, and how many were completed.
 fn reported<A: Allocator>(summary: &Summary<A>, from: u8, to: u8) -> Rate {
     let report = |what| Report {
         cell: Some(from),
