@@ -24,7 +24,7 @@ A message about a channel that the site lacks: another timeslot, another TRX, a 
   > abis 9 0 RF CHANNEL RELEASE ACK tn=3
   > abis 0 0 RF CHANNEL RELEASE ACK tn=3
   > END
-  $ ./lab run examples/two_cells.toml script.txt --words | grep '^in a' | sed 's/.*; //'
+  $ ./lab run examples/two_cells.toml script.txt --words 2>/dev/null | grep '^in a' | sed 's/.*; //'
   ignored: no such channel
   ignored: no such channel
   ignored: no such channel
@@ -43,7 +43,7 @@ An operator's line or a timer of which nothing comes: the book's reply says why.
   > seize 3 1 half
   > clear 1
   > END
-  $ ./lab run examples/two_cells.toml script.txt --words | grep '^in'
+  $ ./lab run examples/two_cells.toml script.txt --words 2>/dev/null | grep '^in'
   in undo 1 # call 1; ignored: nothing changes
   in open 1 0 0 3 # call 1
   in open 2 0 0 3 # call 2; ignored: nothing changes
@@ -60,7 +60,7 @@ An operator's line or a timer of which nothing comes: the book's reply says why.
 Where none is free that says enough, but of a call that isn't there.
 
   $ printf 'open 1 1 1 3\nopen 2 0 0 3\nabis 0 0 0822010b080000\nhandover 2 1\nhandover 9 1\n' >full.txt
-  $ ./lab run examples/two_cells.toml full.txt --words | sed -n '/^in handover/,$p'
+  $ ./lab run examples/two_cells.toml full.txt --words 2>/dev/null | sed -n '/^in handover/,$p'
   in handover 2 1 # call 2
   event look 2 -> record 0/0/3 on # call 2
   none free 1 # call 2
