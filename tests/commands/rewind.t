@@ -314,6 +314,7 @@ It is never undone.
   > clear 2
   > END
   $ ./lab run examples/two_cells.toml script.txt >run.trace
+  script.txt:4: nothing comes of it: there is no call 2
   $ ./lab rewind examples/two_cells.toml run.trace 9 2>errors
   no attempt
   [2]

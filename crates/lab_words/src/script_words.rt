@@ -93,7 +93,7 @@ const RECORD: CommandRow = CommandRow {
         ArgumentRow {
             name: "accept",
             form: Form::Valued("accept", "LINE", COUNTED),
-            help: "Takes what came at this line of the script alone; all other lines stay as they are",
+            help: "Takes what came at this line alone; all other lines stay as they are",
             rules: &[],
         },
     ],
