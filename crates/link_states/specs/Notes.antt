@@ -38,7 +38,7 @@ channel_rows = lchan ▸ flag 2 ▸ bar ▸ flag 5 ▸ flag 6 ▸ flag 7
 
 abbrev pub channel_said : Lookup → Result ChannelNote ValueFault
 channel_said found =
-    channel_rows.read found >>= λ (l, has_link, b, runs, to_be, keeps). Ok (record { lchan = l; has_link = has_link; bar = b; bar_runs = runs; is_to_be_barred = to_be; keeps_failure = keeps })
+    channel_rows.read found >>= λ (l, (has_link, (b, (runs, (to_be, keeps))))). Ok (record { lchan = l; has_link = has_link; bar = b; bar_runs = runs; is_to_be_barred = to_be; keeps_failure = keeps })
 
 abbrev pub channel_elements : ChannelNote → List Element
 channel_elements note = channel_rows.written (note.lchan, (note.has_link, (note.bar, (note.bar_runs, (note.is_to_be_barred, note.keeps_failure)))))
@@ -48,7 +48,7 @@ abbrev pub call_rows : Row (Bool × (Bool × (Bool × Option Timer)))
 call_rows = flag 8 ▸ flag 9 ▸ flag 10 ▸ timer
 
 abbrev pub call_said : Lookup → Result CallNote ValueFault
-call_said found = call_rows.read found >>= λ (away, reports, air, t). Ok (record { is_away = away; reports = reports; is_from_air = air; timer = t })
+call_said found = call_rows.read found >>= λ (away, (reports, (air, t))). Ok (record { is_away = away; reports = reports; is_from_air = air; timer = t })
 
 abbrev pub call_elements : CallNote → List Element
 call_elements note = call_rows.written (note.is_away, (note.reports, (note.is_from_air, note.timer)))
