@@ -196,6 +196,18 @@ fn joined<A: Allocator>(alloc: A, lines: &[&str]) -> Result<String<A>, AllocErro
     Ok(text)
 }
 
+/// Lines as strings.
+fn strings_of<A: Allocator + Copy>(
+    alloc: A,
+    lines: &[&str],
+) -> Result<Vec<String<A>, A>, AllocError> {
+    let mut strings = Vec::new(alloc);
+    for line in lines {
+        strings.push(String::from_str(alloc, *line)?)?;
+    }
+    Ok(strings)
+}
+
 /// The lines of some strings.
 fn as_lines<A: Allocator + Copy>(
     alloc: A,
@@ -265,12 +277,19 @@ impl<A: Allocator + Copy> Search<'_, A> {
         place.unwrap_or(self.lines.len())
     }
 
-    /// Puts values in the place of names in the lines from a place on that give something.
-    fn put_names(&mut self, first: usize) -> Result<(), AllocError> {
-        for line in self.lines.iter_mut().skip(first) {
-            if gives_names(line.as_str()) {
-                *line = self.names.put_in_line(self.alloc, line.as_str())?;
-            }
+    /// A line, with values in the place of its names, where it gives something.
+    fn with_values(&self, line: &str) -> Result<String<A>, AllocError> {
+        if gives_names(line) {
+            self.names.put_in_line(self.alloc, line)
+        } else {
+            String::from_str(self.alloc, line)
+        }
+    }
+
+    /// Appends the lines behind so many that were written, those that give something with values in the place of names.
+    fn add_behind(&self, written: &mut Vec<String<A>, A>) -> Result<(), AllocError> {
+        for line in self.lines.get(written.len()..).unwrap_or(&[]) {
+            written.push(self.with_values(line.as_str())?)?;
         }
         Ok(())
     }
@@ -282,15 +301,26 @@ impl<A: Allocator + Copy> Search<'_, A> {
         };
         let mut front = as_lines(self.alloc, &self.lines)?;
         front.truncate(end);
-        let Some(written) = written_front(self.alloc, sites, &front, &mut self.names)? else {
+        let Some(mut written) = written_front(self.alloc, sites, &front, &mut self.names)? else {
             return Ok(false);
         };
-        drop(front);
-        for (line, without) in self.lines.iter_mut().zip(written) {
-            *line = without;
-        }
-        self.put_names(end)?;
+        self.add_behind(&mut written)?;
+        self.lines = written;
         Ok(true)
+    }
+
+    /// Finds out what names stand for, as far as lines can be run; nothing where one before the first with a name can't be read.
+    fn find(&mut self) -> Result<Option<Named<A>>, LabFault> {
+        for _ in self.script {
+            let end = self.front();
+            if !self.run_front(end)? {
+                return Ok(None);
+            }
+            if self.front() == end {
+                return Ok(Some(self.named(end)?));
+            }
+        }
+        Ok(None)
     }
 
     /// The line at a place, where there is one: it has names that stand for nothing.
@@ -342,23 +372,8 @@ pub fn named_script<A: Allocator + Copy>(
         site,
         peer,
         script: &lines,
-        lines: Vec::new(alloc),
+        lines: strings_of(alloc, &lines)?,
         names: Names::new(alloc),
     };
-    for line in &lines {
-        search
-            .lines
-            .push(String::from_str(alloc, *line)?)
-            .map_err(AllocError::from)?;
-    }
-    for _ in &lines {
-        let end = search.front();
-        if !search.run_front(end)? {
-            return Ok(None);
-        }
-        if search.front() == end {
-            return Ok(Some(search.named(end)?));
-        }
-    }
-    Ok(None)
+    search.find()
 }
