@@ -40,16 +40,16 @@ pub struct Named<A: Allocator = Global> {
 
 /// A listener that finds what names stand for, and writes the lines of a script without them.
 #[derive(Drop)]
-struct Binder<'a, 'n, A: Allocator + Copy> {
+struct Binder<'a, 't, 'n, A: Allocator + Copy> {
     alloc: A,
-    lines: &'a [&'a str],
+    lines: &'a [&'t str],
     place: usize,
     names: &'n mut Names<A>,
     /// The lines before the place without names.
     written: Vec<String<A>, A>,
 }
 
-impl<A: Allocator + Copy> Binder<'_, '_, A> {
+impl<A: Allocator + Copy> Binder<'_, '_, '_, A> {
     /// Those of the lines that were written from a place on, and this one.
     fn written_with<'w>(
         &'w self,
@@ -134,7 +134,7 @@ impl<A: Allocator + Copy> Binder<'_, '_, A> {
         let lines = came_lines(self.alloc, came.trace, came.words)?;
         let held = printed_lines(self.alloc, came.held)?;
         let first = self.written.len();
-        let (part, behind) = left.split_at(part_end(left));
+        let (part, behind) = left.split_at(part_end(left).min(left.len()));
         for line in part {
             self.write(first, *line, &lines, &held)?;
         }
@@ -148,7 +148,7 @@ impl<A: Allocator + Copy> Binder<'_, '_, A> {
     }
 }
 
-impl<A: Allocator + Copy> PartListener for Binder<'_, '_, A> {
+impl<A: Allocator + Copy> PartListener for Binder<'_, '_, '_, A> {
     // Nothing is told well or not.
     ghost Hears = { λ _ _ _. Unit {0} };
 
@@ -156,7 +156,7 @@ impl<A: Allocator + Copy> PartListener for Binder<'_, '_, A> {
 
     fn wants_held(&self) -> bool {
         let (_, left) = self.lines.split_at(self.place.min(self.lines.len()));
-        let (part, _) = left.split_at(part_end(left));
+        let (part, _) = left.split_at(part_end(left).min(left.len()));
         expect_held(part)
     }
 
@@ -255,19 +255,19 @@ fn expected_before(lines: &[&str], name: &str) -> Option<usize> {
 
 /// A script whose names are being found out.
 #[derive(Drop)]
-struct Search<'a, A: Allocator + Copy> {
+struct Search<'a, 't, A: Allocator + Copy> {
     alloc: A,
     scratch: Global,
     site: &'a str,
     peer: Option<&'a str>,
     /// The lines as they stand in the script.
-    script: &'a [&'a str],
+    script: &'a [&'t str],
     /// The lines, those that give something without the names that are known.
     lines: Vec<String<A>, A>,
     names: Names<A>,
 }
 
-impl<A: Allocator + Copy> Search<'_, A> {
+impl<A: Allocator + Copy> Search<'_, '_, A> {
     /// The place of the first line that gives something and has names; behind all where none has.
     fn front(&self) -> usize {
         let place = self
@@ -304,6 +304,7 @@ impl<A: Allocator + Copy> Search<'_, A> {
         let Some(mut written) = written_front(self.alloc, sites, &front, &mut self.names)? else {
             return Ok(false);
         };
+        drop(front);
         self.add_behind(&mut written)?;
         self.lines = written;
         Ok(true)
