@@ -1,2 +1,0 @@
--- what lines say, one after another
-pub mod LineFacts
