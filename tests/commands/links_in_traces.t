@@ -63,6 +63,7 @@ it says.
   summary all            1 calls opened
   summary all            1 internal attempts
   summary all            1 undone: activation refused
+  summary all         50.0 % of activations confirmed: 1 of 2
   summary all            2 out CHANNEL ACTIVATION
   summary all            2 in CHANNEL ACTIVATION ACK
   summary all            1 in DATA INDICATION

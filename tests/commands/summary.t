@@ -143,6 +143,7 @@ What was refused isn't counted: a channel that isn't free, a call that isn't the
 
   $ printf 'open 1 0 0 3\nopen 2 0 0 3\nclear 5\nundo 1\n' >refused.txt
   $ ./lab run examples/two_cells.toml refused.txt --summary | grep '^summary' | grep -v ' 0 [a-z]'
+  refused.txt:3: nothing comes of it: there is no call 5
   summary all            1 calls opened
   summary all            1 out CHANNEL ACTIVATION
   summary cell 0         1 calls opened
