@@ -13,7 +13,8 @@ use crate::elements::channel;
 use octet_elements::Found;
 use rsl_messages::{Abis, ChanBits, RslFault};
 
-/// A message that a station sends about a channel, by its discriminator and type (TS 48.058 clauses 9.1 and 9.2).
+/// A message that a station sends about a channel, by its discriminator and type (TS 48.058 clauses 9.1 and 9.2). Those that only
+/// adaptive multirate has (types 37, 38, 3B to 3E) aren't among them.
 #[derive(Clone, Copy, Debug, PartialEq, Eq)]
 pub enum MessageType {
     DataIndication,
