@@ -1,0 +1,8 @@
+python3 sixteen/multi.py journal_records own:a_hole_of_zeros_is_a_cut_record=record::first_record
+python3 sixteen/multi.py call_worker own:what_an_ended_worker_was_for_goes_to_the_first=Office::give
+python3 sixteen/multi.py tested_scripts own:an_empty_part_is_run_into_the_next=tested::next_place own:a_script_that_says_any_lines_alone_expects_nothing=tested::say_anything
+python3 sixteen/multi.py journal_resume all:every_journal_is_refused=journal::resume own:the_fault_names_the_record_before=resuming::take_trace all:a_damaged_file_is_a_trace=wholes::trace_octets
+python3 sixteen/multi.py radio_book own:a_full_channel_is_taken_for_a_half=Book::choose own:held_refusals_of_a_settled_attempt_are_passed_over=marks::marks
+python3 sixteen/multi.py ho_procedure own:messages_before_a_fault_are_lost=Controller::handle_into own:a_handover_of_no_call_is_left_out=handovers::go_on_looked
+python3 sixteen/multi.py journal_opening all:a_journal_is_read_as_one_of_site_0=found::found_in
+python3 sixteen/multi.py storms own:a_storm_that_ended_had_no_thread=storm::travel

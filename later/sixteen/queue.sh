@@ -1,0 +1,21 @@
+#!/bin/bash
+# runs the lines of the file 'jobs' one after the other, each under one of the two locks of provers; waits for more
+cd /work/h7
+echo $$ >sixteen/queue.pid; n=0
+while :; do
+  total=$(wc -l <sixteen/jobs)
+  if [ "$n" -ge "$total" ]; then [ -e sixteen/stop ] && exit; sleep 5; continue; fi
+  n=$((n+1)); line=$(sed -n "${n}p" sixteen/jobs)
+  while :; do
+    for l in prove1 prove2; do
+      exec 9>/tmp/$l.lock
+      if flock -w ${w:-20} 9; then
+        echo "## $(date +%H:%M:%S) $line" >>sixteen/log
+        nice -n 19 timeout 1500 bash -c "$line" >>sixteen/log 2>&1 9>&-
+        echo "## $(date +%H:%M:%S) rc=$?" >>sixteen/log
+        exec 9>&-; break 2
+      fi
+      exec 9>&-
+    done
+  done
+done
