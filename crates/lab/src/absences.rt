@@ -7,7 +7,7 @@ use tested_scripts::{expected_in, is_any, part_end};
 /// The comments behind the line of this number, counted from 1, up to the next line that gives something.
 fn part_behind<'a>(lines: &'a [&'a str], number: usize) -> &'a [&'a str] {
     let (_, behind) = lines.split_at(number.min(lines.len()));
-    let (part, _) = behind.split_at(part_end(behind));
+    let (part, _) = behind.split_at(part_end(behind).min(behind.len()));
     part
 }
 
