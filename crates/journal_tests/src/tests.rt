@@ -163,7 +163,7 @@ fn a_call_fails_by_the_path_and_nothing_is_lost(rt: HostRuntime) -> Result<(), F
     each_fails(&rt, rt.alloc(), Failure::Refused, Some(2), false)
 }
 
-/// A controller goes on behind no line, and a call fails as it opens the journal. What was sent is told once more only where the
+/// A controller goes on behind no line, and power fails at a call of the opening. What was sent is told once more only where the
 /// journal opens. The answer is whether the call came.
 fn fails_as_it_opens(
     rt: &impl Abort,
@@ -173,7 +173,7 @@ fn fails_as_it_opens(
 ) -> Result<bool, Fail> {
     let host = (Disk::new(alloc, Failure::Refused, 0)?, alloc);
     let _first = first_course(&host, scene, None)?;
-    host.0.fail(Failure::Refused, number)?;
+    host.0.fail(Failure::Power, number)?;
     let mut told = Vec::new(alloc);
     let opened = open(&host, &scene.site, None, Some(0), &mut told)?;
     let came = host.0.has_failed()?;
@@ -181,7 +181,7 @@ fn fails_as_it_opens(
     Ok(came)
 }
 
-/// Each call fails in turn as a journal is opened: nothing is told once more before it is on the disk again.
+/// Power fails at each call of an opening: nothing is told once more before it is on the disk again.
 #[test]
 fn what_was_sent_is_told_once_it_is_on_the_disk(rt: HostRuntime) -> Result<(), Fail> {
     let scene = Scene::new(rt.alloc())?;
