@@ -112,6 +112,8 @@ class Again:
         """Whether a line on standard error is that it goes on; it does then. One may say that the journal is lost."""
         if self.notes and UNNOTED.fullmatch(line):
             self.notes, self.lost_since = False, Since()
+            say(f"controller: {shown(line)}", Level.ERROR)
+            return True
         found = RESUMED.fullmatch(line)
         if not found or not self.times.is_set("resume"):
             return False
@@ -382,6 +384,8 @@ class Again:
             return "no program that can be run"
         if not self.journal:
             return "the controller has no journal"
+        if not self.notes:
+            return f"the controller has lost its journal, since {self.lost_since}: without it its calls would end"
         if self.trial:
             return "another program is being tried"
         if not self.is_paused() and (self.relay.is_away or self.relay.core is None or self.relay.core.is_last):

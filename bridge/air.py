@@ -142,6 +142,8 @@ class Air:
     def missed(self, call):
         """The mobile that asked didn't make itself known in time."""
         self.relay.tallies.expired(call.station.cell, "T3101")
+        if (channel := self.relay.talks.serving(call)) and (station := self.relay.places.get(channel[:2])):
+            self.relay.notices.missed(station, self.cells[station.cell].carriers[station.trx])
         self.drop(call)
 
     def drop(self, call):
@@ -181,6 +183,7 @@ class Air:
         elif not call.is_awaited or not 0 < len(said.layer_3) <= link_layer.LONGEST_FIRST:
             station.pass_over("ESTABLISH INDICATION that begins no call")
         else:
+            self.relay.notices.arrived(station)
             self.settle(call)
             call.identity = self.relay.paging.hear(said.layer_3)
             if not self.relay.a_side.begin(call, self.cells[station.cell], said.layer_3):

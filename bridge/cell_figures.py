@@ -7,6 +7,7 @@ from admission import Rejected
 from exposition import COUNTER, GAUGE, Family
 from rsl import CAUSES
 from sites import RATES, free_in
+from stations import CLOSING
 
 # Between which states of channels figures tell; so that each is there also where it is 0.
 CHANNELS = ("held", "pending", "on", "off")
@@ -55,7 +56,7 @@ COUNTED_OF_NETWORK = {
 
 def of_cells(relay):
     """The figures of all cells, at the bridge of stations."""
-    return [*of_channels(relay), *counted(relay, COUNTED)]
+    return [*of_channels(relay), barred(relay), *counted(relay, COUNTED)]
 
 
 def of_cells_of_network(relay):
@@ -88,6 +89,17 @@ def of_channels(relay):
         for rate in RATES if relay.site else ():
             free.add(len(free_in(relay.site[cell][rate], used[cell])), cell=cell, rate=rate)
     return [in_use, free]
+
+
+def barred(relay):
+    """The channels of each cell that nobody gets, though the book has them free."""
+    text = "Channels that nobody gets, since their station hasn't acknowledged the last release."
+    family, closing = Family("gofnild_cell_barred_channels", GAUGE, text), collections.Counter()
+    for station in relay.places.values():
+        closing[station.cell] += sum(use.state == CLOSING for use in station.channels.values())
+    for cell in cells_of(relay):
+        family.add(closing[cell], cell=cell)
+    return family
 
 
 def counted(relay, families):

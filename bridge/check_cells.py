@@ -15,9 +15,10 @@ import urllib.error
 import urllib.parse
 import urllib.request
 
+import rsl
 from check_again import OFTEN, UNHURRIED, needs_journal
 from check_figures import await_figure, samples_in
-from harness import FIRST, FOLDER, LIMIT, SECOND, SITE, SLOW, WITH_PARENT, child, must, needs
+from harness import CHANNEL, FIRST, FOLDER, LIMIT, SECOND, SITE, SLOW, WITH_PARENT, child, must, needs
 from network_harness import burst, clear, rejected, sent
 from speech_harness import ASSIGN, failed, speak, start_call
 
@@ -110,6 +111,27 @@ def go_on(start, room, program):
     are_counted(room)
     await_figure(room / "figures", 1, "gofnild_journal_up")
     bridge.end(0)
+
+
+def barred(start, room, _program):
+    """The figures say of each cell how many channels nobody gets, since their station hasn't acknowledged a release, until it does."""
+    bridge = start(*OFTEN_WRITTEN, "--answer", SLOW)
+    station = bridge.station(FIRST)
+    station.unanswered = {rsl.RELEASE}
+    for call, timeslot in ((1, 3), (2, 2)):
+        bridge.ask(f"open {call} 0 0 {timeslot}")
+        bridge.expect(f"record 0/0/{timeslot} on$")
+    figures(room, "barred_channels", 0, cell="0")
+    bridge.ask("clear 1\nclear 2")
+    bridge.expect("^event released 0/0/3 -> done$", "^event released 0/0/2 -> done$")
+    figures(room, "barred_channels", 2, cell="0")
+    figures(room, "barred_channels", 0, cell="1")
+    figures(room, "free_channels", 2, cell="0", rate="full")
+    station.say(rsl.channel_message(rsl.RELEASE_ACK, CHANNEL))
+    figures(room, "barred_channels", 1, cell="0")
+    station.leave()
+    figures(room, "barred_channels", 0, cell="0")
+    bridge.end()
 
 
 def of_requests(start, room, _program):
@@ -264,4 +286,4 @@ def await_answer(port, query, log):
 
 
 OF_NETWORK = [of_requests, read_by_node_exporter, dashboard]
-CHECKS = [of_cells, go_on, alarms]
+CHECKS = [of_cells, go_on, barred, alarms]

@@ -25,6 +25,8 @@ def bad_config(start, room, _program):
         (("[gateway]\nport", "[gateway]\nport = 0\nports"), "gateway.port: a whole number from 1 to 65535 is allowed, not 0"),
         (("[gateway]", '[gateway]\ndomain = "a b"'), "gateway.domain: a name of 1 to 64 letters, digits, full stops and hyphens"),
         (("[gateway]\nport", "[gateway]\nhost"), "gateway.host: no such key is known"),
+        (("[gateway]", "[gateway]\nterminal = 0"), "gateway.terminal: a whole number from 1 to 65535 is allowed, not 0"),
+        (("[gateway]", "[gateway]\nterminal_address = 4243"), "gateway.terminal_address: an address as 192.0.2.7, in quotes, is"),
         (("gateway-repeat = 120", "gateway-repeat = 0"), "timers.gateway-repeat: a number of seconds over 0 and under a million"),
         (("retry = 0.2", "t9 = 1"), "timers.t9: no such key is known, not 1"),
         (("emergency_reserve = 0", "emergency_reserve = -1"), "emergency_reserve: a whole number from 0 to 32 is allowed, not -1"),

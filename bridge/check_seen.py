@@ -12,7 +12,12 @@ from check_figures import await_figure
 from check_paging import COMMAND, PAGING, RESPONSE
 from harness import FIRST, FOLDER, LIMIT, SECOND, SLOW, child, must
 from network_harness import NOTHING, SITE, ask_until, assigned, begin, burst, clear, say, sent
+from notices import Notices
+from stations import Station
+from stream import Times
 
+# What is told of a station where nobody comes.
+DIDNT_COME = "that were given a channel didn't come: is its carrier the site's,"
 # MEASUREMENT RESULT (TS 48.058, 8.4.8): the first, how the station hears the mobile, its power, and the mobile's report. The station
 # hears it at level 30, -80 dBm, and quality 3 of all frames.
 RESULT = "08280109" + "1b00" + "19031e1e1b" + "0400" + "0b0012"
@@ -136,6 +141,27 @@ def swapped(start, _room, _program):
     run.end(is_empty=False)
 
 
+def nobody_comes(start, _room, _program):
+    """Ten telephones in a row that are given a channel of a station and don't come are told, once: the station may send on another
+    carrier than the site has. One that comes begins the row anew."""
+    run = start(t3101=1)
+    station = run.begin()
+    for count in range(11):
+        must(not any("in a row" in line for line in run.said.lines) or count == 10, f"it is told behind {count}")
+        burst(station, f"{count:02x}0a0d")
+        assigned(station, f"{count:02x}0a0d")
+        run.expect("^event clear [0-9]+ -> done$")
+    run.said.expect(f"warning: station 6969/0/0 .*: 10 telephones in a row {DIDNT_COME} 60, or is its unit that of another cell.$")
+    must(sum("in a row" in line for line in run.said.lines) == 1, "it is told again")
+    run.end(is_empty=False)
+    noticed, other = Notices(Times()), Station("1/0/0", 0, 0)
+    for _ in range(9):
+        noticed.missed(other, 60)
+    noticed.arrived(other)
+    noticed.missed(other, 60)
+    must(noticed.vain == {"1/0/0": 1}, f"in a row are {noticed.vain}")
+
+
 class Strict(TestCentre):
     """A centre that knows another name than the bridge's."""
 
@@ -166,11 +192,14 @@ def lost_journal(start, room, program):
     await_figure(room / "figures", 1, "gofnild_journal_up")
     resource.prlimit(child(run), resource.RLIMIT_FSIZE, (1, resource.RLIM_INFINITY))
     run.ask(NOTHING)
-    run.said.expect("the journal ends, and the controller goes on$")
+    run.said.expect("error: controller: .*; the journal ends, and the controller goes on$")
     ask_until(run, "network", "^controller: there; started again: 0; journal: lost since [0-9:]+$")
+    # one in its place would have an older book, or none
+    run.ask(f"upgrade {around}")
+    run.expect("^refused: upgrade .*: the controller has lost its journal, since [0-9:]+: without it its calls would end$")
     await_figure(room / "figures", 0, "gofnild_journal_up")
     run.end(status=2)
 
 
-OF_NETWORK = [whose_it_is, swapped, wrong_name, lost_journal]
+OF_NETWORK = [whose_it_is, swapped, nobody_comes, wrong_name, lost_journal]
 CHECKS = [levels, since_when, full_cell]

@@ -8,11 +8,11 @@ import sys
 import threading
 import time
 
-from check_again import OFTEN, compare, controller, journaled, played, program_that, told
+from check_again import OFTEN, bridge_with, compare, controller, journaled, played, program_that, told
 from check_again_network import UNHURRIED, Script, a_call, a_registration
 from check_m3ua import begun, started
 from check_moves import begin_moving
-from harness import FIRST, FOLDER, LIMIT, SECOND, SITE, Asker, child, children, must
+from harness import FIRST, FOLDER, LIMIT, SECOND, SITE, Asker, Lines, child, children, must
 from load import LoadStation, SpeakingCentre
 from network_harness import ACCEPT, COMPLETE, NOTHING, UPDATE
 from network_harness import SECOND as OTHER_CELL
@@ -26,6 +26,8 @@ GOES_ON = "bridge upgrade: .* goes on in the bridge's place"
 REFUSED = r"refused: bridge upgrade .*: "
 # How often bridges follow one another under load, and with links that are looked at.
 OFTEN_IN_A_ROW, TEN = 100, 10
+# How long what is printed may wait there, in seconds, and how often it is asked for much of it.
+SHORTLY, MANY = 3.0, 100
 # A unit that says late who it is.
 LATE = "6971/0/0"
 # A controller that has half of a line printed, and the rest once there is a file `go`.
@@ -243,6 +245,31 @@ def not_just_now(start, room, program):
     site.write_text(SITE.read_text() + "# another comment\n")
     refused(bridge, "", f"{site} has changed since the bridge began")
     bridge.end()
+
+
+def unread(start, room, _program):
+    """Where what is printed isn't read, another bridge, which would leave it out, doesn't take the place: that is refused, and the
+    bridge goes on. Once all is read, and none of it is left out, one does."""
+    os.mkfifo(room / "printed")
+    reads = os.open(room / "printed", os.O_RDONLY | os.O_NONBLOCK)
+    patched = bridge_with(room, "succession.UNWRITTEN", SHORTLY)
+    bridge = start(abis=program_that(room, "unread", f'#!/bin/sh\nexec "{patched}" "$@" >"{room}/printed"\n'))
+    station = bridge.station(FIRST)
+    # a pipe has room for 64 KiB (pipe(7)), and that is more than 1,000 octets each time
+    for _ in range(MANY):
+        bridge.ask("help")
+    refused(bridge, "", "standard output isn't read: ")
+    must(station.is_there, "its link is lost")
+    os.set_blocking(reads, True)
+    with open(reads) as file:
+        printed = Lines(file)
+        for _ in range(MANY):
+            printed.expect("^help: this$")
+        upgrade(bridge)
+        bridge.ask("open 1 0 0 3")
+        printed.expect("^event open 1 0/0/3 -> done$")
+        bridge.end()
+        printed.thread.join(LIMIT)
 
 
 def signals_wait(start, room, _program):
@@ -492,6 +519,6 @@ def a_page(start, room, program):
 
 
 CHECKS = [in_the_middle_of_a_script, half_read, operators_stay, the_rest_of_times, broken_pages, not_just_now, signals_wait]
-CHECKS += [a_rival_waits, a_page, ten_with_links]
+CHECKS += [a_rival_waits, unread, a_page, ten_with_links]
 OF_NETWORK = [at_each_step_of_a_call, half_of_the_centre, over_m3ua, a_hundred_in_a_row]
 OF_NETWORK += [in_a_network(a_registration), in_a_network(a_call)]

@@ -38,11 +38,14 @@ class Centre:
 
 @dataclasses.dataclass
 class Gateway:
-    """How the media gateway is reached, and under which name it has its endpoints."""
+    """How the media gateway is reached, and under which name it has its endpoints; and where its terminal is, whose port is None
+    where that isn't to be asked."""
 
     address: str
     port: int
     domain: str
+    terminal_address: str
+    terminal: int | None
 
 
 @dataclasses.dataclass
@@ -154,10 +157,10 @@ def broadcast_of(table, band):
     return found
 
 
-def address_of(table, name):
-    """An address of IP, this machine's own where none is named."""
+def address_of(table, name, default="127.0.0.1"):
+    """An address of IP, this machine's own where none is named, or another one."""
     allowed = "an address as 192.0.2.7, in quotes, is allowed"
-    return table.take(name, "127.0.0.1", allowed, lambda it: str(ipaddress.ip_address(str(it))))
+    return table.take(name, default, allowed, lambda it: str(ipaddress.ip_address(str(it))))
 
 
 def centre_of(table):
@@ -179,7 +182,9 @@ def centre_of(table):
 def gateway_of(table):
     """How the media gateway is reached."""
     domain = table.text("domain", r"[A-Za-z0-9.-]{1,64}", "a name of 1 to 64 letters, digits, full stops and hyphens", "mgw")
-    found = Gateway(address_of(table, "address"), table.whole("port", 1, 65535, 2427), domain)
+    address = address_of(table, "address")
+    terminal_address = address_of(table, "terminal_address", address)
+    found = Gateway(address, table.whole("port", 1, 65535, 2427), domain, terminal_address, table.whole("terminal", 1, 65535, None))
     table.end()
     return found
 

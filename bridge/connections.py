@@ -123,7 +123,7 @@ class Connections:
     def data(self, connection, octets):
         """Sends a message on a connection; it waits where that isn't open yet."""
         if len(octets) > sccp.LONGEST_DATA:
-            self.say(f"not sent, a message of {len(octets)} octets would have to be segmented: {octets[:20].hex()}")
+            self.say(f"not sent, a message of {len(octets)} octets would have to be segmented: {octets.hex()}")
         elif connection.state is State.REQUESTED:
             connection.waiting.append(octets)
         elif connection.state is State.OPEN:
@@ -153,7 +153,7 @@ class Connections:
         try:
             message = sccp.read(octets)
         except sccp.Unreadable as error:
-            self.say(f"no message of SCCP that is taken: {error}: {octets[:20].hex() or 'empty'}")
+            self.say(f"no message of SCCP that is taken: {error}: {octets.hex() or 'empty'}")
             return
         self.takers[message.type](message)
 

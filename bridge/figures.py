@@ -183,7 +183,7 @@ def of_speech(relay):
     gateway = relay.media.gateway
     return [
         Family("gofnild_speech_endpoints", GAUGE, "Endpoints at the gateway.").add(len(relay.media.all)),
-        Family("gofnild_gateway_silent", GAUGE, "Whether the gateway doesn't answer.").add(int(gateway.is_silent)),
+        Family("gofnild_gateway_silent", GAUGE, "Whether the gateway doesn't answer.").add(int(gateway.silent_since is not None)),
         Family("gofnild_gateway_open_transactions", GAUGE, "Transactions without an answer yet.").add(len(gateway.asked)),
         family_of("gofnild_gateway_transactions", COUNTER, "What became of transactions.", "what", gateway.counts),
     ]

@@ -9,7 +9,7 @@ import faults
 import mgcp
 from mgcp import Command, Verb
 from page import keeps
-from tell import Level, Sayings
+from tell import Level, Sayings, Since
 
 # For how many seconds the number of a transaction that is over is remembered: longer than an answer may be under way (T-HIST).
 REMEMBERED = 30.0
@@ -36,7 +36,7 @@ class Asked(typing.NamedTuple):
 
 
 @keeps(
-    *("socket", "asked", "over", "number", "is_silent", "counts"),
+    *("socket", "asked", "over", "number", "silent_since", "counts"),
     wired=("selector", "times", "settings", "seconds", "faults", "sayings"),
 )
 class Gateway:
@@ -51,7 +51,8 @@ class Gateway:
         # transactions that are over: what was asked, and which connections of which endpoints were answered
         self.over = {}
         self.number = random.randrange(mgcp.MOST)
-        self.is_silent = False
+        # since when it doesn't answer; None where it does
+        self.silent_since: Since | None = None
         self.counts = {"asked": 0, "asked again": 0, "not answered": 0, "refused": 0, "passed over": 0}
         family = socket.AF_INET6 if ":" in settings.address else socket.AF_INET
         self.socket = socket.socket(family, socket.SOCK_DGRAM)
@@ -136,9 +137,9 @@ class Gateway:
     def give_up(self, number):
         """It isn't answered in time."""
         self.counts["not answered"] += 1
-        if not self.is_silent:
+        if not self.silent_since:
             self.say(f"doesn't answer in {self.seconds['gateway']:g} seconds")
-        self.is_silent = True
+            self.silent_since = Since()
         self.finish(number, None)
 
     def finish(self, number, answer):
@@ -192,9 +193,9 @@ class Gateway:
             # it has it, and needn't be told again
             self.times.forget(("gateway again", answer.number))
         else:
-            if self.is_silent:
+            if self.silent_since:
                 self.say("answers again")
-            self.is_silent = False
+            self.silent_since = None
             if not answer.is_done:
                 self.counts["refused"] += 1
                 self.say(f"answers {answer.code} to {self.asked[answer.number].command.verb.value}")
@@ -226,4 +227,5 @@ class Gateway:
     def known(self):
         """What is known of it, in one line."""
         counts = ", ".join(f"{name} {count}" for name, count in self.counts.items())
-        return f"gateway: {'silent' if self.is_silent else 'not silent'}; transactions: {len(self.asked)} open, {counts}"
+        there = f"silent since {self.silent_since}" if self.silent_since else "not silent"
+        return f"gateway: {there}; transactions: {len(self.asked)} open, {counts}"

@@ -226,7 +226,7 @@ class Link:
         elif stream == ipa.OWN and message[:1] == ipa.IDENTITY:
             self.identify(ipa.unit_in(message))
         else:
-            self.refuse(f"a message before it said who it is: stream {stream:02x}, {message[:20].hex() or 'empty'}")
+            self.refuse(f"a message before it said who it is: stream {stream:02x}, {message.hex() or 'empty'}")
 
     def take_own(self, message):
         """Takes a message of IPA's own, of a station that is known."""
@@ -237,7 +237,7 @@ class Link:
         elif message[:1] == ipa.IDENTITY:
             self.say(f"says again who it is, as {ipa.unit_in(message)}")
         elif message[:1] != ipa.ACKNOWLEDGEMENT:
-            self.say(f"no message of IPA that is known: {message[:20].hex() or 'empty'}")
+            self.say(f"no message of IPA that is known: {message.hex() or 'empty'}")
 
     # Who it is
 

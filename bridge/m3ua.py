@@ -216,7 +216,7 @@ class M3ua:
     def data(self, connection, octets):
         """Sends a message on a connection; it waits where that isn't open yet."""
         if len(octets) > sccp.LONGEST_DATA:
-            say(f"A: not sent, a message of {len(octets)} octets would have to be segmented: {octets[:20].hex()}", Level.WARNING)
+            say(f"A: not sent, a message of {len(octets)} octets would have to be segmented: {octets.hex()}", Level.WARNING)
         elif connection.state is State.REQUESTED:
             connection.waiting.append(octets)
         elif connection.state is State.OPEN:

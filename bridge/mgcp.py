@@ -110,7 +110,7 @@ def answer_of(lines):
     first = lines[0] if lines else ""
     found = FIRST_LINE.fullmatch(first)
     if not found:
-        raise Unreadable(f"no answer: {first[:40]}")
+        raise Unreadable(f"no answer: {first}")
     end = lines.index("") if "" in lines else len(lines)
     parameters: dict[str, str] = {it[1].upper(): it[2] for it in map(PARAMETER.fullmatch, lines[1:end]) if it}
     hosts, ports = ([it[1] for it in map(form.fullmatch, lines[end:]) if it] for form in (HOST, PORT))

@@ -68,6 +68,7 @@ own = "0.42.1"
 peer = "0.23.1"
 [gateway]
 port = {gateway}
+{terminal}
 [timers]
 retry = 0.2
 {timers}
@@ -83,9 +84,10 @@ cell = 1
 # gateway and the check itself may be slow.
 OF_MOBILES, OF_CENTRE = ("t3101", "t3109", "t3113", "t10", "establish"), ("connect", "release", "clearing", "settle", "repeat")
 OF_GATEWAY = ("gateway", "gateway-repeat", "gateway-audit")
-# What is asked for of CONFIG beside timers, and what it is where that isn't asked for; `broadcast` are more lines of that table,
-# and `more` are other tables.
-KEYS = {"neci": 1, "awaited": 4, "emergency_reserve": 0, "pagings": 4, "band": 900, "transport": "ipa", "broadcast": "", "more": ""}
+# What is asked for of CONFIG beside timers, and what it is where that isn't asked for; `broadcast` and `terminal` are more lines of
+# that table and of the gateway's, and `more` are other tables.
+KEYS = {"neci": 1, "awaited": 4, "emergency_reserve": 0, "pagings": 4, "band": 900, "transport": "ipa"}
+KEYS |= {"broadcast": "", "terminal": "", "more": ""}
 # An operator's line of which nothing comes, but that it is printed: the site has no such cell.
 NOTHING = "handover 65535 63"
 # What a mobile says first, and what the centre answers, as in a location update of osmo-bsc and osmo-msc.

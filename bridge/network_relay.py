@@ -1,6 +1,9 @@
 """The bridge of a network: that of stations, joined by the switching centre and by calls that begin on the air."""
+from __future__ import annotations
+
 import collections
 import re
+import typing
 
 import access
 import barring
@@ -26,6 +29,9 @@ from rsl import Channel
 from stations import MOST_NAMES
 from talks import Talks
 from tell import Level, say
+
+if typing.TYPE_CHECKING:
+    from frames import Frames
 
 # A message to the centre about a call.
 SAID = re.compile(rb"out a (\d+) ([0-9a-f]*)")
@@ -53,7 +59,7 @@ NUMBER = re.compile(rb"0*(\d{1,5})")
     "passed",
     wired=(
         *("config", "plmn", "talks", "information", "barring", "a_side", "air", "paging", "media", "assignments", "ciphering"),
-        "arrivals",
+        *("arrivals", "frames"),
     ),
 )
 class NetworkRelay(Relay):
@@ -71,6 +77,8 @@ class NetworkRelay(Relay):
         self.media = Media(self, times, seconds)
         self.assignments = Assignments(self, times, seconds)
         self.ciphering, self.arrivals = Ciphering(self), Arrivals(self)
+        # whoever makes it gives it what counts frames of speech
+        self.frames: Frames
         # what the centre sent that nobody takes
         self.passed: collections.Counter = collections.Counter()
 
@@ -111,7 +119,7 @@ class NetworkRelay(Relay):
         if isinstance(giver, Operator) and giver.is_served:
             words = line.split()
             if words == NETWORK:
-                giver.tell(*self.again.known(), self.known(), self.access_known(), self.media.known())
+                giver.tell(*self.again.known(), self.known(), self.access_known(), f"{self.media.known()}; {self.frames.known()}")
                 return
             if words and words[0] in (BAR, UNBAR):
                 self.barring.take(giver, line)
@@ -148,6 +156,11 @@ class NetworkRelay(Relay):
         talk = self.talks.by_number.get(number)
         identity = f", {talk.identity}" if talk and talk.identity else ""
         return identity + (f", timing advance {talk.request.delay}" if talk and talk.request else "")
+
+    def of_speech(self, channel):
+        """How many frames of speech were counted on a channel, in words."""
+        speech = self.media.legs.get(channel)
+        return self.frames.of(speech) if speech and speech.at == channel else ""
 
     def note_report(self, station, message):
         """A report of a channel came. A mobile that hears its own cell as another's is told."""

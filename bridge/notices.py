@@ -7,9 +7,11 @@ from tell import Level, say
 
 # For how many seconds nothing of a cell or a station is told again.
 QUIET = 60.0
+# How many mobiles in a row that were given a channel on a station and don't come are told.
+MOST_VAIN = 10
 
 
-@keeps("untold", "swaps", wired=("times",))
+@keeps("untold", "swaps", "vain", wired=("times",))
 class Notices:
     """What was noticed."""
 
@@ -19,6 +21,8 @@ class Notices:
         self.untold: collections.Counter = collections.Counter()
         # the units that were told to be those of other cells
         self.swaps: set[str] = set()
+        # by unit how many mobiles in a row that were given a channel there didn't come
+        self.vain: collections.Counter = collections.Counter()
 
     def resume(self):
         """Goes on with the times that another bridge has set."""
@@ -49,3 +53,14 @@ class Notices:
         say(f"{station}: a telephone on it hears {heard}, which is this cell, as a neighbour: {why}", Level.WARNING)
         self.swaps.add(station.unit)
         self.be_quiet(("swapped", station.unit))
+
+    def missed(self, station, carrier):
+        """A mobile that was given a channel on a station, on this carrier of the site, didn't come."""
+        self.vain[station.unit] += 1
+        if self.vain[station.unit] == MOST_VAIN:
+            why = f"is its carrier the site's, {carrier}, or is its unit that of another cell?"
+            say(f"{station}: {MOST_VAIN} telephones in a row that were given a channel didn't come: {why}", Level.WARNING)
+
+    def arrived(self, station):
+        """One came."""
+        self.vain[station.unit] = 0

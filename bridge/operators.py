@@ -13,7 +13,8 @@ from stream import Lines, Stream
 from tell import Level, plain, show, shown
 
 # Keywords of what is simulated: none of it is there.
-SIMULATED = (b"report", b"answer", b"sim", b"refuse", b"hold", b"let", b"mobile", b"double", b"cut", b"hangup")
+SIMULATED = (b"report", b"answer", b"sim", b"refuse", b"hold", b"let", b"mobile", b"double", b"cut", b"restart",
+             b"hangup")
 # After how many seconds without another line an operator who has asked all is answered to the end.
 QUIET = 0.5
 # How many lines of operators are taken in a turn of the loop. A view counts as many.

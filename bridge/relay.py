@@ -318,10 +318,10 @@ class Relay:
         self.times.set(("reason", number), SOON, lambda: self.explain(number))
 
     def hear_error(self, line):
-        """Hears what the controller says on standard error: mostly why it can't read a line."""
+        """Hears what the controller says on standard error: mostly why it can't read a line, and else what fails."""
         found = REASON.fullmatch(line)
         if not found:
-            say(f"controller: {shown(line)}")
+            say(f"controller: {shown(line)}", Level.WARNING)
             return
         number = int(found[1])
         self.reasons[number] = plain(found[2].decode(errors="replace"))
@@ -505,6 +505,10 @@ class Relay:
         """Whose a call is, in words: here nobody says that."""
         return ""
 
+    def of_speech(self, _channel):
+        """How many frames of speech were counted on a channel, in words: here nobody counts them."""
+        return ""
+
     def pass_over(self, station, message):
         """Takes a message for which the controller has no row: it is counted."""
         self.endings.hear(station, message)
@@ -512,9 +516,9 @@ class Relay:
         station.pass_over(name)
         if rsl.kind(message) == (rsl.TRX, rsl.ERROR_REPORT):
             cause = rsl.cause(message) or "missing"
-            station.link.say(f"{name}, it took a message for wrong, cause {cause}: {message[:60].hex()}", Level.WARNING)
+            station.link.say(f"{name}, it took a message for wrong, cause {cause}: {message.hex()}", Level.WARNING)
         elif self.tells_messages:
-            station.link.say(f"{name}, not for the controller: {message[:60].hex()}", Level.INFO)
+            station.link.say(f"{name}, not for the controller: {message.hex()}", Level.INFO)
 
     def is_late(self, station, message):
         """Whether a message is an answer of yore, which isn't handed on: it was given in the station's place, or stood in front

@@ -211,9 +211,18 @@ def the_bridge_is_killed(show):
     """
     one, two = begin(show)
     show.hear(one, two)
+    services_begin_anew(show, lambda: show.off(one, two))
+    one, two = begin(show)
+    show.hear(one, two)
+    end(show, one, two)
+
+
+def services_begin_anew(show, then=lambda: None):
+    """The bridge is killed, and another one begins over the journal, in which two speak; then something is done, and the gateway and
+    the stations begin anew too."""
     show.run.begin_anew()
     show.run.said.find("calls of before are over: 2, with 2 channels$", 0)
-    show.off(one, two)
+    then()
     show.around.kill("mgw")
     show.around.start_gateway()
     for number in (0, 1):
@@ -223,9 +232,6 @@ def the_bridge_is_killed(show):
         show.run.said.find(rf"station 69{69 + number}/0/0 .*: there, from", 0)
     show.run.said.find("A: the centre is there", 0)
     show.empty()
-    one, two = begin(show)
-    show.hear(one, two)
-    end(show, one, two)
 
 
 SCENES = (killed_in_speech, killed_while_it_moves, killed_between, killed_at_each_step, upgraded, the_bridge_is_upgraded)

@@ -40,9 +40,11 @@ def a_short_message_alone(show):
 
 
 def a_call(show):
-    """Two telephones speak."""
+    """Two telephones speak, and the bridge says how many frames each way."""
     one, two = begin(show)
     show.hear(one, two)
+    show.frames_are_counted(one)
+    show.frames_are_counted(two)
     end(show, one, two)
 
 

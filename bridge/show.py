@@ -3,6 +3,7 @@ import json
 import os
 import pathlib
 import re
+import resource
 import signal
 import tempfile
 import time
@@ -21,11 +22,15 @@ EMPTY = 40
 # How many frames of two seconds' speech, which are a hundred, have to be said, and how many may be lost; and how often they may
 # speak until it is so.
 LEAST_SAID, MOST_LOST, TRIES = 90, 10, 5
+# How many frames a second may have: fifty, and the reports that stations send beside them.
+MOST_COUNTED = 55
 # Which part of what is said is heard at least each time, also while a call moves, and on a busy machine; and how many frames a
 # move may cost, once a busy machine had more time. A gateway that doesn't make one stream of two stations' costs some 40.
 HEARD_PART, MOST_MOVING = 2, 25
-# A controller that says which process it is, and doesn't begin, or go on, while it is held.
+# A controller that says which process it is, and doesn't begin, or go on, while it is held. Where no file may grow it isn't killed
+# (XFSZ): what it writes fails.
 CONTROLLER = """#!/bin/sh
+trap '' XFSZ
 echo $$ > "{folder}/process"
 while [ -e "{folder}/hold" ]; do sleep 0.05; done
 exec "{program}" "$@"
@@ -39,7 +44,8 @@ class Run(Bridge):
     def __init__(self, program, room, settings, transport="ipa", name="network"):
         self.folder = pathlib.Path(tempfile.mkdtemp(dir=room))
         self.program = program
-        words = json.dumps([str(self.controller("controller")), "live", "--journal", str(self.folder / "journal")])
+        journal = ["--journal", str(self.folder / "journal"), "--journal-lost", "go-on"]
+        words = json.dumps([str(self.controller("controller")), "live", *journal])
         text = (FOLDER / f"{name}.toml").read_text().replace('["./lab", "live"]', words)
         if transport == "m3ua":
             text = text.replace('"ipa"', '"m3ua"').replace("port = 5000", "port = 2905").replace('"0.42.1"', '"0.42.2"')
@@ -94,6 +100,10 @@ class Run(Bridge):
     def kill(self):
         """Kills the controller, as a power cut would."""
         os.kill(self.controllers_number(), signal.SIGKILL)
+
+    def fill_disk(self):
+        """From now on nothing more can be written to the controller's files, as where a disk is full."""
+        resource.prlimit(self.controllers_number(), resource.RLIMIT_FSIZE, (1, resource.RLIM_INFINITY))
 
     def is_empty(self):
         """Waits until no channel is in use."""
@@ -258,6 +268,19 @@ class Show:
             if min(said) >= LEAST_SAID and max(lost) == 0:
                 return
         raise Unmet(f"{lost} frames of {said} are lost")
+
+    def frames_are_counted(self, telephone):
+        """The bridge counts the frames of a telephone, each way, while speech goes on: nearly all of a second's."""
+        run, place = self.bridge_of(telephone)
+        known = re.compile(rf"channel {place}: .*; frames in the last second: (\d+) from the mobile, (\d+) to it")
+        end, counts = time.monotonic() + EMPTY, []
+        while not counts or min(counts) < LEAST_SAID / 2 or max(counts) > MOST_COUNTED:
+            must(time.monotonic() < end, f"the frames of {place} are {counts}")
+            at = len(run.out.lines)
+            run.ask("calls")
+            self.radio.wait(0.5)
+            counts = [int(it) for found in map(known.match, run.out.lines[at:]) if found for it in found.groups()]
+        print(f"bridge/telephones:   in a second {counts[0]} frames come from {place}, and {counts[1]} go there", flush=True)
 
     def from_now(self):
         """What the bridges have said up to now isn't waited for any more."""

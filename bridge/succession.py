@@ -22,7 +22,7 @@ OPTION = "--takes-over"
 # again whether it is, while others have their turns.
 LONGEST, UNWRITTEN, SOON = 120.0, 30.0, 0.05
 # Times that the new bridge sets itself, as it begins or as they are wanted.
-OWN_TIMES = ("figures", "succession")
+OWN_TIMES = ("figures", "frames", "succession")
 OWN_KINDS = ("said", "listener")
 # How many lines of a program's standard error are told.
 MOST_SAID = 20

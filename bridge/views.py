@@ -40,7 +40,8 @@ class Views:
             there = f"{use.state} since {use.since}" if use else "at rest"
         agrees = (use and use.state) in AGREEING[used and used.state]
         report = f"; {use.report}" if use and use.report else ""
-        return f"channel {channel}: {here}; station: {there}{'' if agrees else '; THEY DIFFER'}{report}"
+        frames = f"; {it}" if (it := self.relay.of_speech(channel)) else ""
+        return f"channel {channel}: {here}; station: {there}{'' if agrees else '; THEY DIFFER'}{report}{frames}"
 
     def of_call(self, number):
         """A channel's call in words, with its attempt at handover."""
