@@ -115,30 +115,30 @@ Lines that can't be read, and replies that aren't the book's.
   line 2
   [2]
   $ cat errors
-  run.trace:2: no event with its reply, as run prints it: event look 1 -> refused 1
+  run.trace:2: this isn't an event with its reply, as in: event look 1 -> refused 1
   $ printf '\n1: event look 1 -> refused 1\n' >run.trace
   $ ./lab audit examples/two_cells.toml run.trace 2>errors
   line 2
   [2]
   $ cat errors
-  run.trace:2: a line of the trace of two controllers, and audit takes that of one
+  run.trace:2: this is a trace of two controllers, but audit reads the trace of one
   $ ./lab rewind examples/two_cells.toml run.trace 1 2>errors
   line 2
   [2]
   $ cat errors
-  run.trace:2: a line of the trace of two controllers, and rewind takes that of one
+  run.trace:2: this is a trace of two controllers, but rewind reads the trace of one
   $ printf 'event look 1 -> refused 1\r\nevent look 1 -> done\r\n' >run.trace
   $ ./lab audit examples/two_cells.toml run.trace 2>errors
   line 2
   [2]
   $ cat errors
-  run.trace:2: the book of this site replies "refused 1" here, and the trace says "done"
+  run.trace:2: the book of this site replies "refused 1" here, but the trace says "done"
   $ printf 'event look 1 -> refused 1 # call 1; NoCall: there is no such call\n' >run.trace
   $ ./lab audit examples/two_cells.toml run.trace 2>errors
   line 1
   [2]
   $ cat errors
-  run.trace:1: words stand behind this event, as run prints it with --words
+  run.trace:1: words follow this event: the trace was printed with --words
 
 The traces of the book's tests. In those with attempts of several calls each of these is taken out.
 

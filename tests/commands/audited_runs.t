@@ -150,7 +150,7 @@ Where nothing is run, nothing is taken out.
   line 2
   [2]
   $ cat errors
-  bad.txt:2: TN is 0 to 7, with /0 or /1 behind it for half rate, found 8
+  bad.txt:2: TN is 0 to 7, with /0 or /1 at the end for half rate, found 8
   $ printf '' >empty.toml
   $ ./lab run empty.toml bad.txt --audit 2>/dev/null
   site 2 handover

@@ -425,7 +425,7 @@ The refusals, by their numbers in a trace.
   $ ./lab explain refused 2
   CallExists: the call is there already
   $ ./lab explain refused 3
-  WrongPhase: no attempt is open, or the call or its attempt hasn't come so far, or is past it
+  WrongPhase: no attempt is open, or the call or its attempt is at the wrong stage
   $ ./lab explain refused 4
   NoChannel: the site names no such traffic channel
   $ ./lab explain refused 5
@@ -435,7 +435,7 @@ The refusals, by their numbers in a trace.
   $ ./lab explain refused 7
   RefBusy: this handover reference is in use
   $ ./lab explain refused 8
-  Unexpected: this channel is in use for no call, or doesn't wait for this message of its station
+  Unexpected: no call has this channel, or it doesn't wait for this message of its station
   $ ./lab explain refused 9
   NotArmed: the timer isn't armed for the call
 

@@ -26,7 +26,7 @@ A site is refused as by run; here a text of the site stands in another's place.
   site 4 identity
   [2]
   $ cat errors
-  refused.toml: cell 0 and cell 1 have the same lac and ci, which no two cells may have
+  refused.toml: cell 0 and cell 1 have the same lac and ci, but no two cells may
   $ ./lab check / 2>errors
   file /
   [2]
@@ -93,13 +93,13 @@ At most 64 own and 64 outside cells.
   site 3 cell
   [2]
   $ cat errors
-  other.toml: cell: an array of 65 entries isn't an array of 1 to 64 tables
+  other.toml: cell: it has 65 entries, but has to be an array of 1 to 64 tables
   $ many 64 65 >other.toml
   $ ./lab check other.toml 2>errors
   site 3 outside
   [2]
   $ cat errors
-  other.toml: outside: an array of 65 entries isn't an array of 0 to 64 tables
+  other.toml: outside: it has 65 entries, but has to be an array of 0 to 64 tables
 
 Arrays that stand one in another, at most 80; and a file of 1 MiB.
 
@@ -128,13 +128,13 @@ are outside cells there, too, aren't the peer's.
   >   sed "$change" site.toml >changed.toml
   >   ./lab check changed.toml --peer examples/one_cell.toml | grep 'warning: outside'
   > done
-  warning: outside 64: bcch: 63, and the peer's cell 0 has 62
-  warning: outside 64: bsic: 4/0, and the peer's cell 0 has 3/0
+  warning: outside 64: bcch: 63, but the peer's cell 0 has 62
+  warning: outside 64: bsic: 4/0, but the peer's cell 0 has 3/0
   warning: outside 64: no cell of the peer has lac=23 ci=103
   $ sed 's/arfcn = 62/arfcn = 63/; s/bcch = 62/bcch = 63/; s/bcc = 0/bcc = 7/' examples/one_cell.toml >peer.toml
   $ ./lab check site.toml --peer peer.toml | grep 'warning: outside'
-  warning: outside 64: bcch: 62, and the peer's cell 0 has 63
-  warning: outside 64: bsic: 3/0, and the peer's cell 0 has 3/7
+  warning: outside 64: bcch: 62, but the peer's cell 0 has 63
+  warning: outside 64: bsic: 3/0, but the peer's cell 0 has 3/7
   $ ./lab check site.toml --peer site.toml | grep 'warning: outside'
   warning: outside 64: no cell of the peer has lac=23 ci=102
 
@@ -147,4 +147,4 @@ Where the peer is refused nothing is printed of the site.
   site 4 identity
   [2]
   $ cat errors
-  refused.toml: cell 0 and cell 1 have the same lac and ci, which no two cells may have
+  refused.toml: cell 0 and cell 1 have the same lac and ci, but no two cells may

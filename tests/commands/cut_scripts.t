@@ -10,17 +10,18 @@ standard error; what is printed is the same.
   event look 12 -> refused 1
   end channels=1 calls=1 references=0 timers=0
   $ cat errors
-  cut.txt: the last line has no line feed: it may be cut
+  cut.txt: the last line has no line feed, and may be cut off
+  cut.txt:2: this line has no effect: there is no call 12
   $ printf '#> end channels=0 calls=0 references=0 timers=0' >cut.txt
   $ ./lab test examples/two_cells.toml cut.txt 2>errors
   1..1
   ok 1 - cut.txt
   $ cat errors
-  cut.txt: the last line has no line feed: it may be cut
+  cut.txt: the last line has no line feed, and may be cut off
   $ printf 'sim' >cut.txt
   $ ./lab run examples/two_cells.toml cut.txt --words 2>errors >/dev/null
   $ cat errors
-  cut.txt: the last line has no line feed: it may be cut
+  cut.txt: the last line has no line feed, and may be cut off
 
 A line that can't be read is told behind that.
 
@@ -29,7 +30,7 @@ A line that can't be read is told behind that.
   line 1
   [2]
   $ cat errors
-  cut.txt: the last line has no line feed: it may be cut
+  cut.txt: the last line has no line feed, and may be cut off
   cut.txt:1: CALL is missing in clear CALL
 
 A text that ends with a line feed isn't cut, and neither is one without a line.

@@ -292,22 +292,22 @@ Why octets are refused stands on standard error, as explain says it.
   hex
   [2]
   $ cat errors
-  *nothing stands between them: the last has one (glob)
+  *nothing may separate octets: the last octet has only one (glob)
   $ ./lab decode rr 0g1 2>errors
   hex
   [2]
   $ cat errors
-  *nothing stands between them: character 2 is 'g' (glob)
+  *nothing may separate octets: character 2 is 'g' (glob)
   $ ./lab decode rr "$(printf '0\342\240\200\033')" 2>errors
   hex
   [2]
   $ cat errors
-  *nothing stands between them: character 2 is '\\u{2800}' (glob)
+  *nothing may separate octets: character 2 is '\\u{2800}' (glob)
   $ ./lab decode abis 0g 2>errors
   hex
   [2]
   $ cat errors
-  *nothing stands between them: character 2 is 'g' (glob)
+  *nothing may separate octets: character 2 is 'g' (glob)
 
 Lines of standard input and of a file.
 

@@ -101,16 +101,16 @@ What isn't written comes back, too.
 A text that is no message, or can't be written, is refused with a reason on standard error.
 
   $ ./lab encode rr 'CLEAR COMPLETE' 2>&1 >>printed
-  "CLEAR COMPLETE" is no message of the link rr: a name stands before fields as KEY=VALUE, and bsc_lab help encode lists both
+  "CLEAR COMPLETE" is no message of the link rr: write a name and then fields as KEY=VALUE; bsc_lab help encode lists both
   [2]
   $ ./lab encode a 'CLEAR cause=9' 2>&1 >>printed
-  "CLEAR" is no message of the link a: a name stands before fields as KEY=VALUE, and bsc_lab help encode lists both
+  "CLEAR" is no message of the link a: write a name and then fields as KEY=VALUE; bsc_lab help encode lists both
   [2]
   $ ./lab encode abis '' 2>&1 >>printed
-  "" is no message of the link abis: a name stands before fields as KEY=VALUE, and bsc_lab help encode lists both
+  "" is no message of the link abis: write a name and then fields as KEY=VALUE; bsc_lab help encode lists both
   [2]
   $ ./lab encode abis 'RF CHANNEL RELEASE tn 3' 2>&1 >>printed
-  "RF CHANNEL RELEASE tn 3" is no message of the link abis: a name stands before fields as KEY=VALUE, and bsc_lab help encode lists both
+  "RF CHANNEL RELEASE tn 3" is no message of the link abis: write a name and then fields as KEY=VALUE; bsc_lab help encode lists both
   [2]
   $ ./lab encode abis 'RF CHANNEL RELEASE tn=3 frame=4660' 2>&1 >>printed
   "frame=4660" is no field of the message: bsc_lab help encode lists the fields
@@ -122,19 +122,19 @@ A text that is no message, or can't be written, is refused with a reason on stan
   cause is missing: bsc_lab help encode lists the fields
   [2]
   $ ./lab encode a 'CLEAR COMMAND cause=9 cause=9' 2>&1 >>printed
-  cause stands twice
+  cause is given twice
   [2]
   $ ./lab encode rr 'HANDOVER COMPLETE cause=256' 2>&1 >>printed
   cause is 0 to 255, found "256"
   [2]
   $ ./lab encode rr 'MEASUREMENT REPORT ba=0 dtx=0 full=30 ba3g=0 valid=1 sub=30 si23=0 qfull=0 qsub=0 count=1' 2>&1 >>printed
-  count is 1 (7 says that there are none), and n stands 0 times
+  count is 1, but n is given 0 times (none with count 7)
   [2]
   $ ./lab encode abis 'RF CHANNEL RELEASE tn=8' 2>&1 >>printed
-  tn is 0 to 7, with /0 or /1 behind it for half rate, found "8"
+  tn is 0 to 7, with /0 or /1 at the end for half rate, found "8"
   [2]
   $ ./lab encode a CLEAR 2>&1 >>printed
-  "CLEAR" is no message of the link a: a name stands before fields as KEY=VALUE, and bsc_lab help encode lists both
+  "CLEAR" is no message of the link a: write a name and then fields as KEY=VALUE; bsc_lab help encode lists both
   [2]
 
 A cell is read without its location area, but isn't written so.

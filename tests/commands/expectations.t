@@ -70,7 +70,7 @@ A field stands in a message once, so an expectation that has it twice isn't met;
   not ok 1 - twice.txt
   # line 3
   # expected: out abis 0 0 CHANNEL ACTIVATION tn=3 tn=3
-  # came: tn stands twice
+  # came: tn is given twice
   [1]
   $ report='MEASUREMENT REPORT ba=0 dtx=0 full=30 ba3g=0 valid=1 sub=30 si23=0 qfull=0 qsub=0 count=2 n=20/1/21 n=20/1/21'
   $ octets=$(./lab encode rr "$report")
@@ -89,7 +89,7 @@ Other lines have no words: of them all has to be said.
   not ok 1 - script.txt
   # line 3
   # expected: end channels=1
-  # came: no line of a trace is so
+  # came: no line of a trace is like this
   [1]
 
 No line begins so.
@@ -107,10 +107,10 @@ No line begins so.
   1..1
   not ok 1 - script.txt
   # line 6
-  # expected none that begins with: out abis 0 0 RF CHANNEL RELEASE
+  # expected no line that begins with: out abis 0 0 RF CHANNEL RELEASE
   # came: out abis 0 0 RF CHANNEL RELEASE tn=3
   # line 7
-  # expected none that begins with: event look
+  # expected no line that begins with: event look
   # came: event look 1 -> record 0/0/3 pending
   [1]
   $ sed '6,7d' script.txt >met.txt
@@ -135,10 +135,10 @@ Nor is one so in words, as `#>` takes them: with other fields between, in anothe
   1..1
   not ok 1 - script.txt
   # line 3
-  # expected none that begins with: out abis 0 0 CHANNEL ACTIVATION mode=00010801 tn=3
+  # expected no line that begins with: out abis 0 0 CHANNEL ACTIVATION mode=00010801 tn=3
   # came: out abis 0 0 CHANNEL ACTIVATION tn=3 activation=0 mode=00010801 reference=-
   # line 7
-  # expected none that begins with: out abis 0 0 DATA REQUEST; HANDOVER COMMAND carrier=875
+  # expected no line that begins with: out abis 0 0 DATA REQUEST; HANDOVER COMMAND carrier=875
   # came: out abis 0 0 DATA REQUEST tn=3 link=0 layer3=062bd5670ba36b0005; HANDOVER COMMAND arfcn=871 ncc=2 bcc=5 tn=3 tsc=5 carrier=875 reference=0 atc=0 power=5
   [1]
 
@@ -149,13 +149,13 @@ It is of all that comes up to the next line: what simulators answer, and at the 
   1..1
   not ok 1 - script.txt
   # line 3
-  # expected none that begins with: event confirm
+  # expected no line that begins with: event confirm
   # came: event confirm 0/0/3 -> owned 1
   # line 5
-  # expected none that begins with: end channels=0
+  # expected no line that begins with: end channels=0
   # came: end channels=0 calls=0 references=0 timers=0
   # line 6
-  # expected none that begins with: in abis 0 0 RF CHANNEL RELEASE ACK
+  # expected no line that begins with: in abis 0 0 RF CHANNEL RELEASE ACK
   # came: in abis 0 0 RF CHANNEL RELEASE ACK tn=3
   [1]
 
@@ -193,36 +193,36 @@ A text that no line can begin with, nor be in words, would never be missed: it i
   1..1
   not ok 1 - script.txt
   # line 1
-  # expected none that begins with: out abis
-  # came: no line stands before it
+  # expected no line that begins with: out abis
+  # came: no script line comes before it
   # line 3
-  # expected none that begins with: out abs
-  $ grep -c '^# expected none that begins with: ' said
+  # expected no line that begins with: out abs
+  $ grep -c '^# expected no line that begins with: ' said
   23
   $ cat errors
-  script.txt:1: never missed: no line stands before it
-  script.txt:3: never missed: no line of a trace begins so
-  script.txt:4: never missed: no line of a trace begins so
-  script.txt:5: never missed: no such controller: one alone has no mark
-  script.txt:6: never missed: no line of a trace begins so
-  script.txt:7: never missed: no line of a trace begins so
-  script.txt:8: never missed: no line of a trace begins so
-  script.txt:9: never missed: no line of a trace begins so
-  script.txt:10: never missed: no line of a trace begins so
-  script.txt:11: never missed: no line of a trace begins so
-  script.txt:12: never missed: no line of a trace begins so
-  script.txt:13: never missed: no line of a trace begins so
-  script.txt:14: never missed: "CHANEL ACTIVATION" is no message of the link
-  script.txt:15: never missed: "CHANNEL" is no message of the link
-  script.txt:16: never missed: "CHANNEL ACTIVATION" is no message of the link
-  script.txt:17: never missed: "timeslot=3" is no field of the message
-  script.txt:18: never missed: "CHANNEL ACTIVATION ref" is no message of the link
-  script.txt:19: never missed: tn stands twice
-  script.txt:20: never missed: "HANDOVER COMAND" is no message of the link
-  script.txt:21: never missed: "HANDOVER COMM" is no message of the link
-  script.txt:22: never missed: "carier=875" is no field of the message
-  script.txt:23: never missed: a blank stands behind ;
-  script.txt:24: never missed: a trace has octets in small letters
+  script.txt:1: is always met: no script line comes before it
+  script.txt:3: is always met: no line of a trace begins like this
+  script.txt:4: is always met: no line of a trace begins like this
+  script.txt:5: is always met: there is only one controller: its lines have no mark
+  script.txt:6: is always met: no line of a trace begins like this
+  script.txt:7: is always met: no line of a trace begins like this
+  script.txt:8: is always met: no line of a trace begins like this
+  script.txt:9: is always met: no line of a trace begins like this
+  script.txt:10: is always met: no line of a trace begins like this
+  script.txt:11: is always met: no line of a trace begins like this
+  script.txt:12: is always met: no line of a trace begins like this
+  script.txt:13: is always met: no line of a trace begins like this
+  script.txt:14: is always met: "CHANEL ACTIVATION" is no message of the link
+  script.txt:15: is always met: "CHANNEL" is no message of the link
+  script.txt:16: is always met: "CHANNEL ACTIVATION" is no message of the link
+  script.txt:17: is always met: "timeslot=3" is no field of the message
+  script.txt:18: is always met: "CHANNEL ACTIVATION ref" is no message of the link
+  script.txt:19: is always met: tn is given twice
+  script.txt:20: is always met: "HANDOVER COMAND" is no message of the link
+  script.txt:21: is always met: "HANDOVER COMM" is no message of the link
+  script.txt:22: is always met: "carier=875" is no field of the message
+  script.txt:23: is always met: a blank has to follow ;
+  script.txt:24: is always met: a trace writes octets in small letters
 
 So is a message that controllers don't send. (`in` may have any: a line may give it.)
 
@@ -239,14 +239,14 @@ So is a message that controllers don't send. (`in` may have any: a line may give
   > #! out a 1 HANDOVER FAILURE cau
   > END
   $ ./lab test examples/two_cells.toml script.txt 2>&1 >/dev/null
-  script.txt:2: never missed: controllers send no "CHANNEL ACTIVATION NACK"
-  script.txt:3: never missed: controllers send no "CLEAR COMMAND"
-  script.txt:4: never missed: "CLEAR CO" is no message of the link
-  script.txt:5: never missed: "CHANNEL ACTI" is no message of the link
-  script.txt:6: never missed: controllers send no "MEASUREMENT RESULT"
-  script.txt:7: never missed: controllers send no "CHANNEL REQUIRED"
-  script.txt:9: never missed: "CHANNEL ACTIVATION t" is no message of the link
-  script.txt:10: never missed: "HANDOVER FAILURE cau" is no message of the link
+  script.txt:2: is always met: a controller never sends "CHANNEL ACTIVATION NACK"
+  script.txt:3: is always met: a controller never sends "CLEAR COMMAND"
+  script.txt:4: is always met: "CLEAR CO" is no message of the link
+  script.txt:5: is always met: "CHANNEL ACTI" is no message of the link
+  script.txt:6: is always met: a controller never sends "MEASUREMENT RESULT"
+  script.txt:7: is always met: a controller never sends "CHANNEL REQUIRED"
+  script.txt:9: is always met: "CHANNEL ACTIVATION t" is no message of the link
+  script.txt:10: is always met: "HANDOVER FAILURE cau" is no message of the link
   [1]
 
 So is a value that no message is printed with. A text ends at a word's end: of octets it may have the first ones.
@@ -274,20 +274,20 @@ So is a value that no message is printed with. A text ends at a word's end: of o
   > #! in a 1 HANDOVER REQUEST classmark=
   > END
   $ ./lab test examples/two_cells.toml script.txt 2>&1 >/dev/null
-  script.txt:2: never missed: tn is 0 to 7, with /0 or /1 behind it for half rate, found "03"
-  script.txt:3: never missed: reference is 0 to 255, or -, found "256"
-  script.txt:4: never missed: tn is 0 to 7, with /0 or /1 behind it for half rate, found "3/2"
-  script.txt:5: never missed: a trace has octets in small letters
-  script.txt:6: never missed: layer3 is one octet or more in hexadecimal, found "06280"
-  script.txt:7: never missed: atc is 0 or 1, found "2"
-  script.txt:8: never missed: cell is a cell with its location area, as in 23/102, found "23"
-  script.txt:9: never missed: a blank stands behind ;
-  script.txt:10: never missed: n is a level 0 to 63, a position 0 to 31 and a code 0 to 63, as in 40/2/21, found "40/2"
-  script.txt:11: never missed: frame is 0 to 65535, found ""
-  script.txt:12: never missed: tn is 0 to 7, with /0 or /1 behind it for half rate, found "3/"
-  script.txt:13: never missed: tn is 0 to 7, with /0 or /1 behind it for half rate, found ""
-  script.txt:15: never missed: layer3 is one octet or more in hexadecimal, found "06280"
-  script.txt:16: never missed: cell is a cell with its location area, as in 23/102, found "23"
+  script.txt:2: is always met: tn is 0 to 7, with /0 or /1 at the end for half rate, found "03"
+  script.txt:3: is always met: reference is 0 to 255, or -, found "256"
+  script.txt:4: is always met: tn is 0 to 7, with /0 or /1 at the end for half rate, found "3/2"
+  script.txt:5: is always met: a trace writes octets in small letters
+  script.txt:6: is always met: layer3 is one octet or more in hexadecimal, found "06280"
+  script.txt:7: is always met: atc is 0 or 1, found "2"
+  script.txt:8: is always met: cell is a cell with its location area, as in 23/102, found "23"
+  script.txt:9: is always met: a blank has to follow ;
+  script.txt:10: is always met: n is a level 0 to 63, a position 0 to 31 and a code 0 to 63, as in 40/2/21, found "40/2"
+  script.txt:11: is always met: frame is 0 to 65535, found ""
+  script.txt:12: is always met: tn is 0 to 7, with /0 or /1 at the end for half rate, found "3/"
+  script.txt:13: is always met: tn is 0 to 7, with /0 or /1 at the end for half rate, found ""
+  script.txt:15: is always met: layer3 is one octet or more in hexadecimal, found "06280"
+  script.txt:16: is always met: cell is a cell with its location area, as in 23/102, found "23"
   [1]
 
 What the switching centre gives a controller for a mobile it sends on, so that may be any message. A script without lines has an
@@ -329,15 +329,15 @@ So is what doesn't stand behind such a message, and what comes of a line of whic
   > #! end channels=0
   > END
   $ ./lab test examples/two_cells.toml script.txt 2>&1 >/dev/null
-  script.txt:19: never used: nothing comes of it on 0/0/3
-  script.txt:3: never missed: such a message has nothing like it behind it
-  script.txt:4: never missed: such a message has nothing like it behind it
-  script.txt:5: never missed: what is ignored is said by --words alone
-  script.txt:6: never missed: such a message has nothing like it behind it
-  script.txt:7: never missed: "tn=3" is no field of the message
-  script.txt:8: never missed: nothing stands behind ;
-  script.txt:9: never missed: "tn=3" is no message of the link
-  script.txt:16: never missed: nothing ever comes of the line before it
+  script.txt:19: this line has no effect: it is never used on 0/0/3
+  script.txt:3: is always met: no such part ever follows this message
+  script.txt:4: is always met: no such part ever follows this message
+  script.txt:5: is always met: only --words says what is ignored
+  script.txt:6: is always met: no such part ever follows this message
+  script.txt:7: is always met: "tn=3" is no field of the message
+  script.txt:8: is always met: something has to follow ;
+  script.txt:9: is always met: "tn=3" is no message of the link
+  script.txt:16: is always met: the line before it never gives anything
   [1]
 
 What else isn't met stands among these, in the order of the lines; a script that can't be read is refused all the same.
@@ -347,17 +347,17 @@ What else isn't met stands among these, in the order of the lines; a script that
   1..1
   not ok 1 - script.txt
   # line 3
-  # expected none that begins with: out abis
+  # expected no line that begins with: out abis
   # came: out abis 0 0 CHANNEL ACTIVATION tn=3 activation=0 mode=00010801 reference=-
   # line 4
-  # expected none that begins with: ot a
-  # came: no line of a trace begins so
+  # expected no line that begins with: ot a
+  # came: no line of a trace begins like this
   [1]
   $ sed '1i sim 2' script.txt >unread.txt
   $ ./lab test examples/two_cells.toml unread.txt 2>errors | sed -n 3p
   # line 1 can't be read
   $ tail -n 1 errors
-  unread.txt:1: nothing stands behind sim, found 2
+  unread.txt:1: nothing may follow sim, found 2
 
 A line can begin so: the text ends behind a word or between octets, or a message may be in part.
 
@@ -401,14 +401,14 @@ A text that ends within a word begins no line.
   > #! out abis 9 9 CHANNEL ACTIVATION tn=3
   > END
   $ ./lab test examples/two_cells.toml script.txt 2>&1 >/dev/null
-  script.txt:2: never missed: no line of a trace begins so
-  script.txt:3: never missed: no line of a trace begins so
-  script.txt:4: never missed: no line of a trace begins so
-  script.txt:5: never missed: no line of a trace begins so
-  script.txt:6: never missed: "act" is no field of the message
-  script.txt:7: never missed: an octet has two digits
-  script.txt:8: never missed: the site has no such cell or carrier
-  script.txt:9: never missed: the site has no such cell or carrier
+  script.txt:2: is always met: no line of a trace begins like this
+  script.txt:3: is always met: no line of a trace begins like this
+  script.txt:4: is always met: no line of a trace begins like this
+  script.txt:5: is always met: no line of a trace begins like this
+  script.txt:6: is always met: "act" is no field of the message
+  script.txt:7: is always met: an octet has two digits
+  script.txt:8: is always met: the site has no such cell or carrier
+  script.txt:9: is always met: the site has no such cell or carrier
   [1]
 
 So it means whole words: link A isn't Abis, call 1 isn't call 12, timeslot 2 isn't 2/0. Octets may be the first ones.
@@ -436,10 +436,10 @@ So it means whole words: link A isn't Abis, call 1 isn't call 12, timeslot 2 isn
   1..1
   not ok 1 - octets.txt
   # line 2
-  # expected none that begins with: out abis 0 0 0821
+  # expected no line that begins with: out abis 0 0 0821
   # came: out abis 0 0 0821010b0300060400010801
   # line 3
-  # expected none that begins with: out abis 0 0 CHANNEL ACTIVATION tn=3 activation=0 mode=0001
+  # expected no line that begins with: out abis 0 0 CHANNEL ACTIVATION tn=3 activation=0 mode=0001
   # came: out abis 0 0 CHANNEL ACTIVATION tn=3 activation=0 mode=00010801 reference=-
   [1]
 
@@ -466,24 +466,24 @@ A line that is expected and that nothing can be is told before the run, too.
   > #> ..
   > END
   $ ./lab test examples/two_cells.toml script.txt 2>&1 >/dev/null
-  script.txt:1: never met: no line stands before it
-  script.txt:4: never met: "CHANEL ACTIVATION" is no message of the link
-  script.txt:5: never met: "timeslot=3" is no field of the message
-  script.txt:6: never met: tn is 0 to 7, with /0 or /1 behind it for half rate, found "9"
-  script.txt:7: never met: "CHANNEL ACTIVATION" is no message of the link
-  script.txt:8: never met: controllers send no "MEASUREMENT RESULT"
-  script.txt:9: never met: the site has no such cell or carrier
-  script.txt:10: never met: "CHANNEL" is no message of the link
-  script.txt:11: never met: an octet has two digits
-  script.txt:12: never met: no line of a trace is so
-  script.txt:13: never met: no line of a trace is so
-  script.txt:14: never met: no such controller: one alone has no mark
-  script.txt:15: never met: the trace's end comes behind the last line alone
+  script.txt:1: can't be met: no script line comes before it
+  script.txt:4: can't be met: "CHANEL ACTIVATION" is no message of the link
+  script.txt:5: can't be met: "timeslot=3" is no field of the message
+  script.txt:6: can't be met: tn is 0 to 7, with /0 or /1 at the end for half rate, found "9"
+  script.txt:7: can't be met: "CHANNEL ACTIVATION" is no message of the link
+  script.txt:8: can't be met: a controller never sends "MEASUREMENT RESULT"
+  script.txt:9: can't be met: the site has no such cell or carrier
+  script.txt:10: can't be met: "CHANNEL" is no message of the link
+  script.txt:11: can't be met: an octet has two digits
+  script.txt:12: can't be met: no line of a trace is like this
+  script.txt:13: can't be met: no line of a trace is like this
+  script.txt:14: can't be met: there is only one controller: its lines have no mark
+  script.txt:15: can't be met: the trace's end comes only after the last line
   [1]
   $ ./lab test examples/two_cells.toml script.txt 2>/dev/null | sed -n 3,8p
   # line 1
   # expected: event open 1 0/0/3 -> done
-  # came: no line stands before it
+  # came: no script line comes before it
   # line 4
   # expected: out abis 0 0 CHANEL ACTIVATION tn=3
   # came: "CHANEL ACTIVATION" is no message of the link
@@ -525,7 +525,7 @@ of the same kind; what differs first, and how many came.
   $ sed 's/out abis.*/fault rr 2 3/' near.txt >kind.txt
   $ ./lab test examples/two_cells.toml kind.txt | sed -n 4,5p
   # expected: fault rr 2 3
-  # came none of its kind, 23 others
+  # came no line of its kind, and 23 others
 
 A star stands for any word, for any part of a channel, for the value of a field, and behind `->` for any reply.
 
@@ -617,17 +617,17 @@ An event gets its own replies alone; the trace's end comes behind the last line,
   > #! end channels=2
   > END
   $ ./lab test examples/two_cells.toml script.txt 2>&1 >/dev/null
-  script.txt:2: never missed: no line of a trace begins so
-  script.txt:3: never missed: no line of a trace begins so
-  script.txt:4: never missed: no line of a trace begins so
-  script.txt:5: never missed: no line of a trace begins so
-  script.txt:6: never missed: no line of a trace begins so
-  script.txt:7: never missed: no line of a trace begins so
-  script.txt:8: never missed: no line of a trace begins so
-  script.txt:9: never missed: no line of a trace begins so
-  script.txt:10: never missed: no line of a trace begins so
-  script.txt:11: never missed: the trace's end comes behind the last line alone
-  script.txt:12: never missed: no line sim stands before it
+  script.txt:2: is always met: no line of a trace begins like this
+  script.txt:3: is always met: no line of a trace begins like this
+  script.txt:4: is always met: no line of a trace begins like this
+  script.txt:5: is always met: no line of a trace begins like this
+  script.txt:6: is always met: no line of a trace begins like this
+  script.txt:7: is always met: no line of a trace begins like this
+  script.txt:8: is always met: no line of a trace begins like this
+  script.txt:9: is always met: no line of a trace begins like this
+  script.txt:10: is always met: no line of a trace begins like this
+  script.txt:11: is always met: the trace's end comes only after the last line
+  script.txt:12: is always met: no line sim comes before it
   [1]
   $ printf 'sim\nopen 1 0 0 3\n#! sim limit\n#! sim\nclear 1\n#! end channels=1\n' >script.txt
   $ ./lab test examples/two_cells.toml script.txt
@@ -701,10 +701,10 @@ whatever stars stand there; nor are channels that stand twice.
   # came: no such expectation
   # line 8
   # expected: 1: calls 2
-  # came: no such controller: one alone has no mark
+  # came: there is only one controller: its lines have no mark
   # line 9
   # expected: 2: calls 0
-  # came: no such controller: one alone has no mark
+  # came: there is only one controller: its lines have no mark
   # line 10
   # expected: channels 0/0/2 0/0/2 0/0/3
   # came: channels 0/0/2 0/0/3
@@ -825,14 +825,14 @@ Without a mark `#=` says nothing of two controllers, and isn't met; `#!` is of a
   1..1
   not ok 1 - unmarked.txt
   # line 2
-  # expected none that begins with: out abis 0 0 CHANNEL ACTIVATION
+  # expected no line that begins with: out abis 0 0 CHANNEL ACTIVATION
   # came: 1: out abis 0 0 CHANNEL ACTIVATION tn=3 activation=0 mode=00010801 reference=-
   # line 3
-  # expected none that begins with: out abis 0 0 CHANNEL ACTIVATION reference=-
+  # expected no line that begins with: out abis 0 0 CHANNEL ACTIVATION reference=-
   # came: 1: out abis 0 0 CHANNEL ACTIVATION tn=3 activation=0 mode=00010801 reference=-
   # line 5
   # expected: calls 1
-  # came: no mark: 1: or 2: stands before it
+  # came: with two controllers it has to begin with 1: or 2:
   # line 6
   # expected: * * * * * * * *
   # came: no such expectation
@@ -843,9 +843,9 @@ Without a mark `#=` says nothing of two controllers, and isn't met; `#!` is of a
 
   $ printf 'sim\n#> ..\nopen 1 0 0 3\n#! 1: sim limit\n#! 2: out abs\n#! sim limit\n#! 2: o\n#! 2:\n' >script.txt
   $ ./lab test examples/two_cells.toml script.txt --peer examples/one_cell.toml 2>&1 >/dev/null
-  script.txt:4: never missed: no line of a trace begins so
-  script.txt:5: never missed: no line of a trace begins so
-  script.txt:7: never missed: no line of a trace begins so
+  script.txt:4: is always met: no line of a trace begins like this
+  script.txt:5: is always met: no line of a trace begins like this
+  script.txt:7: is always met: no line of a trace begins like this
   [1]
 
 A script that expects nothing isn't met, nor is one whose comments have slipped: that is told on standard error, too.
@@ -869,12 +869,12 @@ A script that expects nothing isn't met, nor is one whose comments have slipped:
   # line 8 looks like an expectation, but isn't one
   [1]
   $ cat errors
-  script.txt:2: an expectation but for a blank? "#> ", "#! " and "#= " begin one
-  script.txt:3: an expectation but for a blank? "#> ", "#! " and "#= " begin one
-  script.txt:4: an expectation but for a blank? "#> ", "#! " and "#= " begin one
-  script.txt:5: an expectation but for a blank? "#> ", "#! " and "#= " begin one
-  script.txt:7: an expectation but for a blank? "#> ", "#! " and "#= " begin one
-  script.txt:8: an expectation but for a blank? "#> ", "#! " and "#= " begin one
+  script.txt:2: this looks like an expectation, but isn't one: write "#> ", "#! " or "#= "
+  script.txt:3: this looks like an expectation, but isn't one: write "#> ", "#! " or "#= "
+  script.txt:4: this looks like an expectation, but isn't one: write "#> ", "#! " or "#= "
+  script.txt:5: this looks like an expectation, but isn't one: write "#> ", "#! " or "#= "
+  script.txt:7: this looks like an expectation, but isn't one: write "#> ", "#! " or "#= "
+  script.txt:8: this looks like an expectation, but isn't one: write "#> ", "#! " or "#= "
   $ printf 'open 1 0 0 3\n#= 1: calls 1\n#=1: calls 7\n#!2: out\n#=\tcalls 7\n#!\tout\n' >script.txt
   $ ./lab test examples/two_cells.toml script.txt --peer examples/one_cell.toml 2>errors
   1..1
@@ -885,10 +885,10 @@ A script that expects nothing isn't met, nor is one whose comments have slipped:
   # line 6 looks like an expectation, but isn't one
   [1]
   $ cat errors
-  script.txt:3: an expectation but for a blank? "#> ", "#! " and "#= " begin one
-  script.txt:4: an expectation but for a blank? "#> ", "#! " and "#= " begin one
-  script.txt:5: an expectation but for a blank? "#> ", "#! " and "#= " begin one
-  script.txt:6: an expectation but for a blank? "#> ", "#! " and "#= " begin one
+  script.txt:3: this looks like an expectation, but isn't one: write "#> ", "#! " or "#= "
+  script.txt:4: this looks like an expectation, but isn't one: write "#> ", "#! " or "#= "
+  script.txt:5: this looks like an expectation, but isn't one: write "#> ", "#! " or "#= "
+  script.txt:6: this looks like an expectation, but isn't one: write "#> ", "#! " or "#= "
   $ printf 'open 1 0 0 3\n#>..\n#!\n#=\n##= calls 1\n# ! out\n#\t>..\n' >script.txt
   $ ./lab test examples/two_cells.toml script.txt 2>/dev/null
   1..1
@@ -915,11 +915,11 @@ So is what looks as if it named a site.
   # line 4 looks like an expectation, but isn't one
   [1]
   $ cat errors
-  script.txt:1: names nothing: "#% site PATH" and "#% peer PATH" name sites
-  script.txt:2: names nothing: "#% site PATH" and "#% peer PATH" name sites
-  script.txt:3: names nothing: "#% site PATH" and "#% peer PATH" name sites
-  script.txt:4: names nothing: "#% site PATH" and "#% peer PATH" name sites
-  script.txt:5: names nothing: "#% site PATH" and "#% peer PATH" name sites
+  script.txt:1: this looks like the name of a site, but isn't one: write "#% site PATH", "#% peer PATH" or "#% cells N full"
+  script.txt:2: this looks like the name of a site, but isn't one: write "#% site PATH", "#% peer PATH" or "#% cells N full"
+  script.txt:3: this looks like the name of a site, but isn't one: write "#% site PATH", "#% peer PATH" or "#% cells N full"
+  script.txt:4: this looks like the name of a site, but isn't one: write "#% site PATH", "#% peer PATH" or "#% cells N full"
+  script.txt:5: this looks like the name of a site, but isn't one: write "#% site PATH", "#% peer PATH" or "#% cells N full"
 
 A carriage return that ends no line is told.
 
@@ -928,11 +928,11 @@ A carriage return that ends no line is told.
   1..1
   ok 1 - script.txt
   $ ./lab test examples/two_cells.toml script.txt 2>&1 >/dev/null
-  script.txt:1: a carriage return without a line feed ends no line
+  script.txt:1: a carriage return without a line feed doesn't end the line
   $ ./lab run examples/two_cells.toml script.txt 2>&1 >/dev/null
-  script.txt:1: a carriage return without a line feed ends no line
+  script.txt:1: a carriage return without a line feed doesn't end the line
   $ ./lab record examples/two_cells.toml script.txt 2>&1 >/dev/null
-  script.txt:1: a carriage return without a line feed ends no line
+  script.txt:1: a carriage return without a line feed doesn't end the line
 
 A script may name its own site, and its peer's, from its own folder on.
 
@@ -974,8 +974,8 @@ A script may name its own site, and its peer's, from its own folder on.
   ok 3 - script.txt
   [2]
   $ cat errors
-  town/twice.txt:3: line 1 has named one: a script names one site, and one peer
-  town/peers.txt:2: line 1 has named one: a script names one site, and one peer
+  town/twice.txt:3: line 1 names one already: a script names at most one site and one peer
+  town/peers.txt:2: line 1 names one already: a script names at most one site and one peer
   $ printf '#%% site town.toml\n2: open 1 0 0 3\n#= 1: calls 0\n' >town/lone.txt
   $ ./lab test examples/two_cells.toml town/lone.txt --peer examples/one_cell.toml 2>errors
   1..1
@@ -983,7 +983,7 @@ A script may name its own site, and its peer's, from its own folder on.
   # line 2 can't be read
   [2]
   $ cat errors
-  town/lone.txt:2: 2: is for a second controller, and the script names none (#% peer PATH)
+  town/lone.txt:2: 2: is for a second controller, but the script names none (#% peer PATH)
   $ ./lab test examples/two_cells.toml town/twice.txt --undo-everywhere 2>/dev/null
   not ok 1 - town/twice.txt
   # line 3 can't be read
@@ -998,23 +998,25 @@ Attempts are taken back over the site that the script names, too: here calls at 
 
   $ printf '#%% site town.toml\nsim\nseize 1 0 half\nhandover 1 1\n' >town/moves.txt
   $ ./lab test examples/two_cells.toml town/moves.txt --undo-everywhere
-  ok 1 - town/moves.txt: undo 1 behind input 3: same
-  ok 2 - town/moves.txt: undo 1 behind input 4: same
-  ok 3 - town/moves.txt: undo 1 behind input 5: same
+  ok 1 - town/moves.txt: undo 1 after input 3: same
+  ok 2 - town/moves.txt: undo 1 after input 4: same
+  ok 3 - town/moves.txt: undo 1 after input 5: same
   1..3
   # same 3, held 0, not settled 0, differ 0
 
 run and record go by the sites that they are given, and say where a script names another one.
 
   $ ./lab run examples/two_cells.toml town/half.txt 2>&1 >/dev/null
-  town/half.txt:1: names the site town/town.toml, and is run over examples/two_cells.toml
+  town/half.txt:1: names the site town/town.toml, but is run over examples/two_cells.toml
+  town/half.txt:2: this line has no effect: the site has no half-rate channel in cell 0
   $ ./lab record town/peer.toml town/both.txt --peer examples/two_cells.toml 2>&1 >/dev/null
-  town/both.txt:1: names the site town/own.toml, and is run over town/peer.toml
-  town/both.txt:2: names the peer town/peer.toml, and is run beside examples/two_cells.toml
+  town/both.txt:1: names the site town/own.toml, but is run over town/peer.toml
+  town/both.txt:2: names the peer town/peer.toml, but its peer is examples/two_cells.toml
+  town/both.txt:3: this line has no effect: the site has no channel 0/0/3
   $ ./lab record examples/two_cells.toml town/two.txt 2>&1 >/dev/null
-  town/two.txt:1: names the peer town/peer.toml, and is run without one
+  town/two.txt:1: names the peer town/peer.toml, but is run without a peer
   $ ./lab run examples/two_cells.toml town/none.txt --audit 2>&1 >/dev/null
-  town/none.txt:1: names the site town/none.toml, and is run over examples/two_cells.toml
+  town/none.txt:1: names the site town/none.toml, but is run over examples/two_cells.toml
   $ ln -s town.toml town/link.toml
   $ ./lab run town/link.toml town/half.txt 2>&1 >/dev/null
   $ ./lab run town/./own.toml town/both.txt --peer town/peer.toml 2>&1 >/dev/null
@@ -1048,6 +1050,7 @@ Records in words, and with what the books hold. An echo with nothing behind it, 
   #= old
   $ printf 'sim\nopen 1 0 0 3\nhandover 1 200\nundo 1\n' >script.txt
   $ ./lab record examples/two_cells.toml script.txt --words >recorded.txt
+  script.txt:3: this line has no effect: the site has no cell 200
   $ grep '^#> in ' recorded.txt
   #> in abis 0 0 CHANNEL ACTIVATION ACK tn=3 frame=0
   #> in handover 1 200
@@ -1062,9 +1065,9 @@ A blank that ends a line that is expected can't be seen: it is said.
   1..1
   not ok 1 - blank.txt
   # line 2
-  # expected: event open 1 0/0/3 -> done  (a blank ends it)
-  # came: no line of a trace is so
+  # expected: event open 1 0/0/3 -> done  (it ends with a blank)
+  # came: no line of a trace is like this
   # line 4
-  # expected: calls 1  (a blank ends it)
+  # expected: calls 1  (it ends with a blank)
   # came: calls 1
   [1]

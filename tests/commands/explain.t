@@ -30,7 +30,7 @@ A number that has no words is refused in one line on standard error, and so is o
   *string; ARGUMENT is a number (glob)
   [2]
   $ ./lab rewind a b 0 2>&1 >>printed
-  *LINE is a number from 1 on (glob)
+  *LINE is a number, 1 or more (glob)
   [2]
   $ ./lab run a b --call x 2>&1 >>printed
   *string; N is a number from 0 to 65535 (glob)
@@ -39,13 +39,13 @@ A number that has no words is refused in one line on standard error, and so is o
   *N is a number from 0 to 65535 (glob)
   [2]
   $ ./lab live a --history x 2>&1 >>printed
-  *string; N is a number from 1 on (glob)
+  *string; N is a number, 1 or more (glob)
   [2]
   $ ./lab live a --journal b --keep 0 2>&1 >>printed
-  *N is a number from 1 on (glob)
+  *N is a number, 1 or more (glob)
   [2]
   $ ./lab live a --journal b --heard x 2>&1 >>printed
-  *string; M is a number from 0 on (glob)
+  *string; M is a number, 0 or more (glob)
   [2]
   $ ./lab explain fault rr 5 2>&1 >>printed
   *no fault rr 5* (glob)
@@ -71,10 +71,10 @@ Which arguments faults have (CODECS): on rr, on A, on Abis.
   *fault rr 3 has no argument* (glob)
   [2]
   $ argument rr 4 0
-  error: the argument of fault rr 4 is the number of what is wrong with the element, 1 to 4, found 0
+  error: the argument of fault rr 4 is the number of the element's fault, 1 to 4, found 0
   [2]
   $ argument rr 4 5
-  error: the argument of fault rr 4 is the number of what is wrong with the element, 1 to 4, found 5
+  error: the argument of fault rr 4 is the number of the element's fault, 1 to 4, found 5
   [2]
   $ argument a 1 0
   *fault a 1 has no argument* (glob)

@@ -340,7 +340,7 @@ Cells that can't carry a call; the first of several checks that fail; numbers pa
   site 5 0
   [2]
   $ cat errors
-  faulty.toml:* cell 0: no trx has a timeslot at tch* (glob)
+  faulty.toml:* cell 0: no trx has a timeslot in tch* (glob)
   $ sed -z 's/window = 2\nmargin = 3\nminimum = 10/minimum = 64/' site.toml >faulty.toml
   $ ./lab run faulty.toml /dev/null 2>errors
   site 2 window
@@ -388,7 +388,7 @@ Cells that can't carry a call; the first of several checks that fail; numbers pa
   site 4 carrier
   [2]
   $ cat errors
-  faulty.toml: *: arfcn * (glob)
+  faulty.toml: *: two trx have arfcn * (glob)
   $ sed -z 's/ba = \[60]\ntrx = \[{ arfcn = 871, tch = \[] }, { arfcn = 875, tch = \[3] }]/ba = [60, 60]\ntrx = [{ arfcn = 871, tch = [3, 3] }, { arfcn = 875, tch = [3] }]/' site.toml >faulty.toml
   $ ./lab run faulty.toml /dev/null 2>errors
   site 4 slot
@@ -460,7 +460,7 @@ Cells that can't carry a call; the first of several checks that fail; numbers pa
   site 4 carrier
   [2]
   $ cat errors
-  faulty.toml: *: arfcn * (glob)
+  faulty.toml: *: two trx have arfcn * (glob)
   $ sed -z 's/ba = \[62, 70, 871]\ntrx = \[{ arfcn = 60, tch = \[2, 3] }]\n\[\[cell]]\nlac = 23\nci = 101\nbcch = 871\nncc = 2\nbcc = 5\npower = 5\nba = \[60]\ntrx = \[{ arfcn = 871, tch = \[] }, { arfcn = 875, tch = \[3] }]/ba = [62, 62]\ntrx = [{ arfcn = 60, tch = [2, 3] }]\n[[cell]]\nlac = 23\nci = 101\nbcch = 871\nncc = 2\nbcc = 5\npower = 5\nba = [60]\ntrx = [{ arfcn = 871, tch = [] }, { arfcn = 875, tch = [3, 3] }]/' site.toml >faulty.toml
   $ ./lab run faulty.toml /dev/null 2>errors
   site 4 slot

@@ -95,7 +95,7 @@ A file may have 64 MiB.
   site 2 handover
   [2]
   $ cat errors
-  long.txt: the last line has no line feed: it may be cut
+  long.txt: the last line has no line feed, and may be cut off
   /dev/null: handover is missing: it has to be a table
   $ head -c 67108865 /dev/zero | tr '\0' '#' >long.txt
   $ ./lab run /dev/null long.txt 2>errors

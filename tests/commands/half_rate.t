@@ -40,8 +40,8 @@ Its chart, and the packet of a message:
    08 21 01 1b 03 00 06 04 00 01 09 01
 
 Calls 1 and 2 are to move to the two halves of timeslot 3. Both attempts are undone, and both halves await their release
-at once; that of the second half comes first. Each line of the trace is a row of the chart; a row has a height of 20, and
-the first bar of a row stands from 52 on. So a bar is told by its first and its last line: the one in which its attempt
+at once; that of the second half comes first. Each line of the trace is a row of the whole chart; a row has a height of 20, and
+the first bar of a row stands from 72 on. So a bar is told by its first and its last line: the one in which its attempt
 opens, and the one in which its own half is released. The bars stand in the order of the openings.
 
   $ cat >halves.txt <<'END'
@@ -56,7 +56,7 @@ opens, and the one in which its own half is released. The bars stand in the orde
   > abis 0 0 0833011b
   > abis 0 0 08330113
   > END
-  $ ./lab run examples/half_rate.toml halves.txt --chart run.svg | grep -n -e ' take ' -e ' undo . ' -e ' released '
+  $ ./lab run examples/half_rate.toml halves.txt --chart run.svg --chart-all | grep -n -e ' take ' -e ' undo . ' -e ' released '
   15:event take 1 internal 0/0/3/0 -> done
   21:event take 2 internal 0/0/3/1 -> done
   26:event undo 1 asked -> record 1/1/3/0 on internal sent 0/0/3/0 0
@@ -64,7 +64,7 @@ opens, and the one in which its own half is released. The bars stand in the orde
   32:event released 0/0/3/1 -> done
   34:event released 0/0/3/0 -> done
   $ bars() { sed -n 's/^<rect x="[0-9]*" y="\([0-9]*\)" width="11" height="\([0-9]*\)" fill="url(#hatched)".*/\1 \2/p' run.svg; }
-  $ bars | while read y height; do test "$y" -lt 52 || echo "$(((y - 52) / 20 + 1)) $(((y - 52 + height - 18) / 20 + 1))"; done
+  $ bars | while read y height; do test "$y" -lt 72 || echo "$(((y - 72) / 20 + 1)) $(((y - 72 + height - 18) / 20 + 1))"; done
   15 34
   21 32
   $ grep -o '>call [12]<' run.svg
@@ -83,7 +83,7 @@ Lines as they come:
   event look 1 -> record 0/0/3/0 on
   end channels=1 calls=1 references=0 timers=0
   $ cat errors
-  standard input:2: TN is 0 to 7, with /0 or /1 behind it for half rate, found 3/2
+  standard input:2: TN is 0 to 7, with /0 or /1 at the end for half rate, found 3/2
 
 Messages in words, and from words:
 
@@ -107,14 +107,14 @@ Scripts as tests, and recorded:
   ok 1 - examples/half_rate.txt
   $ ./lab record examples/half_rate.toml examples/half_rate.txt | diff examples/half_rate.txt -
   $ ./lab test examples/half_rate.toml examples/half_rate.txt --undo-everywhere
-  ok 1 - examples/half_rate.txt: undo 1 behind input 6: same
-  ok 2 - examples/half_rate.txt: undo 1 behind input 7: same
-  ok 3 - examples/half_rate.txt: undo 1 behind input 8: same
-  ok 4 - examples/half_rate.txt: undo 2 behind input 11: same
-  ok 5 - examples/half_rate.txt: undo 2 behind input 12: same
-  ok 6 - examples/half_rate.txt: undo 2 behind input 15: same
-  ok 7 - examples/half_rate.txt: undo 2 behind input 16: same
-  ok 8 - examples/half_rate.txt: undo 2 behind input 17: same
+  ok 1 - examples/half_rate.txt: undo 1 after input 6: same
+  ok 2 - examples/half_rate.txt: undo 1 after input 7: same
+  ok 3 - examples/half_rate.txt: undo 1 after input 8: same
+  ok 4 - examples/half_rate.txt: undo 2 after input 11: same
+  ok 5 - examples/half_rate.txt: undo 2 after input 12: same
+  ok 6 - examples/half_rate.txt: undo 2 after input 15: same
+  ok 7 - examples/half_rate.txt: undo 2 after input 16: same
+  ok 8 - examples/half_rate.txt: undo 2 after input 17: same
   1..8
   # same 8, held 0, not settled 0, differ 0
 
@@ -182,7 +182,7 @@ What a line may not say:
   line 1
   [2]
   $ cat errors
-  bad.txt:1: TN is 0 to 7, with /0 or /1 behind it for half rate, found 3/00
+  bad.txt:1: TN is 0 to 7, with /0 or /1 at the end for half rate, found 3/00
 
 Each type of a channel on each timeslot, in a channel number and in a channel description; the other types are bad:
 
@@ -309,7 +309,7 @@ What a site file may not say of halves, and what is passed over:
   site 3 half
   [2]
   $ cat errors
-  bad.toml: cell 1, trx 1: half: 4 isn't one of the timeslots at tch
+  bad.toml: cell 1, trx 1: half: 4 isn't one of the timeslots in tch
   $ sed 's/tch = .3., half = .3./tch = [3], half = [8]/' examples/half_rate.toml >bad.toml
   $ ./lab check bad.toml 2>errors
   site 3 half
@@ -321,7 +321,7 @@ What a site file may not say of halves, and what is passed over:
   site 4 slot
   [2]
   $ cat errors
-  bad.toml: cell 1, trx 1: half: 3 stands twice, where it may stand once
+  bad.toml: cell 1, trx 1: half: 3 is listed twice
   $ sed 's/tch = .3., half = .3./tch = [3], half = [3, 3, 9]/' examples/half_rate.toml >bad.toml
   $ ./lab check bad.toml 2>errors
   site 3 half
@@ -333,7 +333,7 @@ What a site file may not say of halves, and what is passed over:
   site 3 half
   [2]
   $ cat errors
-  bad.toml: cell 1, trx 1: half: 4 isn't one of the timeslots at tch
+  bad.toml: cell 1, trx 1: half: 4 isn't one of the timeslots in tch
   $ sed 's/tch = .3., half = .3./tch = [9], half = [9]/' examples/half_rate.toml >bad.toml
   $ ./lab check bad.toml 2>errors
   site 3 tch
@@ -345,7 +345,7 @@ What a site file may not say of halves, and what is passed over:
   site 3 half
   [2]
   $ cat errors
-  bad.toml: cell 1, trx 1: half: 3 isn't an array of timeslots that stand in tch
+  bad.toml: cell 1, trx 1: half: 3 isn't an array of timeslots that are in tch too
   $ sed 's/tch = .3., half = .3./tch = [3], half = ["3"]/' examples/half_rate.toml >bad.toml
   $ ./lab check bad.toml 2>errors
   site 3 half
@@ -380,6 +380,8 @@ Octets about a half that is no channel of the site, or that are cut:
 
   $ printf 'abis 0 0 08220112080000\nabis 9 9 0822011b080000\nabis 0 0 0822011b0800\nabis 0 0 08220123080000\n' >octets.txt
   $ ./lab run examples/half_rate.toml octets.txt
+  octets.txt:1: this line has no effect: the site has no channel 0/0/2/0
+  octets.txt:2: this line has no effect: the site has no cell 9
   in abis 0 0 08220112080000
   event confirm 0/0/2/0 -> refused 8 0/0/2/0
   in abis 9 9 0822011b080000
@@ -394,44 +396,45 @@ A timeslot that isn't in half has no halves, nor has a line with what is no half
 
   $ printf 'open 1 0 0 2/0\n' >two.txt
   $ ./lab run examples/half_rate.toml two.txt
+  two.txt:1: this line has no effect: the site has no channel 0/0/2/0
   in open 1 0 0 2/0
   event open 1 0/0/2/0 -> refused 4
   end channels=0 calls=0 references=0 timers=0
   $ printf 'sim\nhold 0 0 3/2\n' >bad.txt
   $ ./lab run examples/half_rate.toml bad.txt 2>&1 >/dev/null
-  bad.txt:2: TN is 0 to 7, with /0 or /1 behind it for half rate, found 3/2
+  bad.txt:2: TN is 0 to 7, with /0 or /1 at the end for half rate, found 3/2
   [2]
   $ printf 'sim\nhold 0 0 3/\n' >bad.txt
   $ ./lab run examples/half_rate.toml bad.txt 2>&1 >/dev/null
-  bad.txt:2: TN is 0 to 7, with /0 or /1 behind it for half rate, found 3/
+  bad.txt:2: TN is 0 to 7, with /0 or /1 at the end for half rate, found 3/
   [2]
   $ printf 'sim\nhold 0 0 /0\n' >bad.txt
   $ ./lab run examples/half_rate.toml bad.txt 2>&1 >/dev/null
-  bad.txt:2: TN is 0 to 7, with /0 or /1 behind it for half rate, found /0
+  bad.txt:2: TN is 0 to 7, with /0 or /1 at the end for half rate, found /0
   [2]
   $ printf 'sim\nhold 0 0 3/0/\n' >bad.txt
   $ ./lab run examples/half_rate.toml bad.txt 2>&1 >/dev/null
-  bad.txt:2: TN is 0 to 7, with /0 or /1 behind it for half rate, found 3/0/
+  bad.txt:2: TN is 0 to 7, with /0 or /1 at the end for half rate, found 3/0/
   [2]
   $ printf 'sim\nhold 0 0 8/1\n' >bad.txt
   $ ./lab run examples/half_rate.toml bad.txt 2>&1 >/dev/null
-  bad.txt:2: TN is 0 to 7, with /0 or /1 behind it for half rate, found 8/1
+  bad.txt:2: TN is 0 to 7, with /0 or /1 at the end for half rate, found 8/1
   [2]
   $ printf 'sim\nhold 0 0 3/-0\n' >bad.txt
   $ ./lab run examples/half_rate.toml bad.txt 2>&1 >/dev/null
-  bad.txt:2: TN is 0 to 7, with /0 or /1 behind it for half rate, found 3/-0
+  bad.txt:2: TN is 0 to 7, with /0 or /1 at the end for half rate, found 3/-0
   [2]
   $ printf 'event open 1 0/0/3/2 -> done\n' >bad.trace
   $ ./lab audit examples/half_rate.toml bad.trace 2>&1 >/dev/null
-  bad.trace:1: no event with its reply, as run prints it: event look 1 -> refused 1
+  bad.trace:1: this isn't an event with its reply, as in: event look 1 -> refused 1
   [2]
   $ printf 'event open 1 0/0/3/ -> done\n' >bad.trace
   $ ./lab audit examples/half_rate.toml bad.trace 2>&1 >/dev/null
-  bad.trace:1: no event with its reply, as run prints it: event look 1 -> refused 1
+  bad.trace:1: this isn't an event with its reply, as in: event look 1 -> refused 1
   [2]
   $ printf 'event open 1 0/0/3/01 -> done\n' >bad.trace
   $ ./lab audit examples/half_rate.toml bad.trace 2>&1 >/dev/null
-  bad.trace:1: no event with its reply, as run prints it: event look 1 -> refused 1
+  bad.trace:1: this isn't an event with its reply, as in: event look 1 -> refused 1
   [2]
 
 The last timeslot of the largest site, 64 cells with four TRX each:

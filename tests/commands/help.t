@@ -68,9 +68,9 @@ behind one that is none, and the words of a line behind its first word alone. A 
   $ grep -qF -- 'Statuses: 0 ' help
   $ grep -qF -- 'As in: bsc_lab decode ' help
   $ grep -qxF -- '  CHANNEL ACTIVATION NACK        tn cause' help
-  $ grep -qF -- 'by fault and its numbers (bsc_lab explain fault says them' help
+  $ grep -qF -- 'is fault and its numbers (bsc_lab explain fault explains them)' help
   $ grep -qF -- 'long (over 65,536 octets)' help
-  $ grep -qF -- 'link (it begins with no link)' help
+  $ grep -qF -- 'link (it doesn'\''t begin with a link)' help
 
   $ ./lab encode --help >help
   $ awk 'length > 100' help
@@ -83,7 +83,7 @@ behind one that is none, and the words of a line behind its first word alone. A 
   $ grep -qF -- 'Statuses: 0 ' help
   $ grep -qF -- 'As in: bsc_lab encode ' help
   $ grep -qF -- 'Fields are KEY=VALUE' help
-  $ grep -qF -- 'as in 3/0 or 3/1 for a half-rate one' help
+  $ grep -qF -- '3/0 or 3/1 for a half-rate one' help
 
   $ ./lab check --help >help
   $ awk 'length > 100' help
@@ -146,7 +146,7 @@ behind one that is none, and the words of a line behind its first word alone. A 
   $ awk 'length > 100' help
   $ grep -qF -- 'Statuses: 0 ' help
   $ grep -qF -- 'As in: bsc_lab record ' help
-  $ tr '\n' ' ' <help | grep -qF -- 'Write to another file than SCRIPT:'
+  $ tr '\n' ' ' <help | grep -qF -- 'Redirect the output to another file than SCRIPT:'
   $ grep -q '^  mobile CELL TRX TN HABIT ' help
 
   $ ./lab help explain >help
@@ -179,4 +179,4 @@ behind one that is none, and the words of a line behind its first word alone. A 
 
   $ ./lab test --help | tr '\n' ' ' >help
   $ grep -qF -- '#% peer PATH' help
-  $ grep -qF -- "1 one doesn't, expects nothing, or has a line that comes to nothing" help
+  $ grep -qF -- "1 a script isn't met, expects nothing, or has a line without effect" help

@@ -17,22 +17,22 @@ without them. `run` says so on standard error at its end; a test isn't met.
   > END
   $ ./lab run examples/two_cells.toml idle.txt 2>&1 >/dev/null
   idle.txt:2: the site has no channel 0/0/5
-  idle.txt:4: never used: nothing comes of it on 0/0/3
-  idle.txt:5: never used: nothing comes of it on 1/1/3
-  idle.txt:6: never used: nothing comes of it on 0/0/3
-  idle.txt:7: never used: nothing comes of it on 0/0/2
-  idle.txt:8: never used: nothing comes of it on 0/0/2
+  idle.txt:4: this line has no effect: it is never used on 0/0/3
+  idle.txt:5: this line has no effect: it is never used on 1/1/3
+  idle.txt:6: this line has no effect: it is never used on 0/0/3
+  idle.txt:7: this line has no effect: it is never used on 0/0/2
+  idle.txt:8: this line has no effect: it is never used on 0/0/2
   idle.txt:10: the site has no channel 9/9/7
   $ ./lab test examples/two_cells.toml idle.txt 2>/dev/null
   1..1
   not ok 1 - idle.txt
-  # line 2 comes to nothing
-  # line 4 comes to nothing
-  # line 5 comes to nothing
-  # line 6 comes to nothing
-  # line 7 comes to nothing
-  # line 8 comes to nothing
-  # line 10 comes to nothing
+  # line 2 has no effect
+  # line 4 has no effect
+  # line 5 has no effect
+  # line 6 has no effect
+  # line 7 has no effect
+  # line 8 has no effect
+  # line 10 has no effect
   [1]
 
 test says the same on standard error.
@@ -46,7 +46,7 @@ What else isn't met stands behind them.
   $ ./lab test examples/two_cells.toml both.txt 2>/dev/null
   1..1
   not ok 1 - both.txt
-  # line 2 comes to nothing
+  # line 2 has no effect
   # line 4
   # expected: calls 2
   # came: calls 1
@@ -91,15 +91,15 @@ of an answer that isn't cut; one about another channel.
   > #> ..
   > END
   $ ./lab run examples/two_cells.toml again.txt 2>&1 >/dev/null
-  again.txt:3: never used: nothing comes of it on 0/0/3
-  again.txt:5: said again before it is used: nothing comes of it on 1/1/3
-  again.txt:7: never used: nothing comes of it on 1/1/3
-  again.txt:8: never used: nothing comes of it on 0/0/2
-  again.txt:9: never used: nothing comes of it on 0/0/3
+  again.txt:3: this line has no effect: it is never used on 0/0/3
+  again.txt:5: this line has no effect: before it is used, another line replaces it on 1/1/3
+  again.txt:7: this line has no effect: it is never used on 1/1/3
+  again.txt:8: this line has no effect: it is never used on 0/0/2
+  again.txt:9: this line has no effect: it is never used on 0/0/3
   $ ./lab test examples/two_cells.toml again.txt 2>/dev/null | head -n 3
   1..1
   not ok 1 - again.txt
-  # line 3 comes to nothing
+  # line 3 has no effect
 
 What is let go counts, too: the acknowledgement that was kept back comes twice.
 
@@ -140,9 +140,9 @@ to be doubled twice is to be doubled once.
   event released 0/0/3 -> refused 8 0/0/3
   end channels=0 calls=0 references=0 timers=0
   $ cat said
-  longer.txt:2: said again before it is used: nothing comes of it on 0/0/3
-  longer.txt:3: never used: nothing comes of it on 0/0/3
-  longer.txt:5: said again before it is used: nothing comes of it on 0/0/3
+  longer.txt:2: this line has no effect: before it is used, another line replaces it on 0/0/3
+  longer.txt:3: this line has no effect: it is never used on 0/0/3
+  longer.txt:5: this line has no effect: before it is used, another line replaces it on 0/0/3
 
 A line that names a call is about the channel that the call has then. What is kept of a mobile that comes is about a
 HANDOVER COMMAND to the channel, behind the line.
@@ -161,17 +161,17 @@ HANDOVER COMMAND to the channel, behind the line.
   > #> ..
   > END
   $ ./lab run examples/two_cells.toml calls.txt 2>&1 >/dev/null
-  calls.txt:2: nothing comes of it: there is no call 1
-  calls.txt:4: never used: nothing comes of it on 0/0/3
-  calls.txt:8: never used: nothing comes of it on 1/1/3
-  calls.txt:9: never used: nothing comes of it on 1/1/3
+  calls.txt:2: this line has no effect: there is no call 1
+  calls.txt:4: this line has no effect: it is never used on 0/0/3
+  calls.txt:8: this line has no effect: it is never used on 1/1/3
+  calls.txt:9: this line has no effect: it is never used on 1/1/3
   $ ./lab test examples/two_cells.toml calls.txt 2>/dev/null
   1..1
   not ok 1 - calls.txt
-  # line 2 comes to nothing
-  # line 4 comes to nothing
-  # line 8 comes to nothing
-  # line 9 comes to nothing
+  # line 2 has no effect
+  # line 4 has no effect
+  # line 8 has no effect
+  # line 9 has no effect
   [1]
   $ cat >came.txt <<'END'
   > sim
@@ -211,21 +211,22 @@ activation that is refused.
   > #> ..
   > END
   $ ./lab run examples/two_cells.toml held.txt 2>&1 >/dev/null
-  held.txt:3: never used: nothing comes of it on 0/0/3
-  held.txt:7: never used: nothing comes of it on 1/1/3
-  held.txt:10: never used: nothing comes of it on 0/0/2
+  held.txt:3: this line has no effect: it is never used on 0/0/3
+  held.txt:7: this line has no effect: it is never used on 1/1/3
+  held.txt:10: this line has no effect: it is never used on 0/0/2
 
 One that waits for a later activation is used by that.
 
   $ printf 'sim\nhold 0 0 3\nrefuse 0 0 3\nopen 1 0 0 3\nclear 1\nopen 1 0 0 3\n' >later.txt
   $ ./lab run examples/two_cells.toml later.txt 2>&1 >/dev/null
+  later.txt:5: this line has no effect: there is no call 1
 
 A cut is used up by the next answer, also by one that isn't longer: nothing comes of it then.
 
   $ printf 'sim\ncut 0 0 3 200\nopen 1 0 0 3\ncut 0 0 3 7\nclear 1\nopen 1 0 0 3\ncut 0 0 3 1\nclear 1\n' >shorter.txt
   $ ./lab run examples/two_cells.toml shorter.txt 2>&1 >/dev/null
-  shorter.txt:2: never used: nothing comes of it on 0/0/3
-  shorter.txt:4: never used: nothing comes of it on 0/0/3
+  shorter.txt:2: this line has no effect: it is never used on 0/0/3
+  shorter.txt:4: this line has no effect: it is never used on 0/0/3
 
 An answer that is cut and comes twice uses both.
 
@@ -239,14 +240,14 @@ A setting is said again before it is used, also where something else comes betwe
   $ printf 'sim\nrefuse 1 1 3\nopen 1 0 0 3\nmobile 1 vanish\nopen 2 0 0 2\nmobile 1 arrive\nrefuse 1 1 3\n' >between.txt
   $ printf 'handover 1 1\nhandover 1 1\nmobile 1 return\n' >>between.txt
   $ ./lab run examples/two_cells.toml between.txt 2>&1 >/dev/null
-  between.txt:2: said again before it is used: nothing comes of it on 1/1/3
-  between.txt:4: said again before it is used: nothing comes of it on 0/0/3
-  between.txt:10: never used: nothing comes of it on 1/1/3
+  between.txt:2: this line has no effect: before it is used, another line replaces it on 1/1/3
+  between.txt:4: this line has no effect: before it is used, another line replaces it on 0/0/3
+  between.txt:10: this line has no effect: it is never used on 1/1/3
 
   $ printf 'sim\nrefuse 0 0 3\nrefuse 0 0 3\nrefuse 0 0 3\nopen 1 0 0 3\n' >thrice.txt
   $ ./lab run examples/two_cells.toml thrice.txt 2>&1 >/dev/null
-  thrice.txt:2: said again before it is used: nothing comes of it on 0/0/3
-  thrice.txt:3: said again before it is used: nothing comes of it on 0/0/3
+  thrice.txt:2: this line has no effect: before it is used, another line replaces it on 0/0/3
+  thrice.txt:3: this line has no effect: before it is used, another line replaces it on 0/0/3
 
 A channel is looked for at the controller whose mark the line has. A mobile may come there from the other one.
 
@@ -261,11 +262,11 @@ that it refused. So does what is kept back of a mobile that goes elsewhere, or i
 
   $ printf 'open 1 0 0 3\nanswer 1 ack\nsim\nmobile 1 return\nhold 1 1 3 complete\nhandover 1 1\n#> ..\n' >before.txt
   $ ./lab run examples/two_cells.toml before.txt 2>&1 >/dev/null
-  before.txt:4: never used: nothing comes of it on 0/0/3
-  before.txt:5: never used: nothing comes of it on 1/1/3
+  before.txt:4: this line has no effect: it is never used on 0/0/3
+  before.txt:5: this line has no effect: it is never used on 1/1/3
   $ printf 'sim\nopen 1 0 0 3\nmobile 1 vanish\nhold 1 1 3 complete\nhandover 1 1\nexpire 1 T3103\n#> ..\n' >gone.txt
   $ ./lab run examples/two_cells.toml gone.txt 2>&1 >/dev/null
-  gone.txt:4: never used: nothing comes of it on 1/1/3
+  gone.txt:4: this line has no effect: it is never used on 1/1/3
   $ printf 'sim\nopen 1 0 0 3\nmobile 1 return\nhandover 1 1\nmobile 1 arrive\nhandover 1 1\n#> ..\n' >back.txt
   $ ./lab test examples/two_cells.toml back.txt
   1..1
@@ -282,4 +283,4 @@ Where more than 100,000 lines would be played to find out, nothing is looked at.
 
   $ { echo sim; for n in $(seq 320); do printf 'refuse 0 0 3\n'; done; } >many.txt
   $ ./lab run examples/two_cells.toml many.txt 2>&1 >/dev/null
-  many.txt: what settings come to isn't looked at: over 100,000 lines would be played for it
+  many.txt: settings without effect aren't looked for: over 100,000 lines would have to be played

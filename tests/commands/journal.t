@@ -44,7 +44,7 @@ The next controller goes on from there, and counts on. What was sent for the lin
   resumed after line 5: channels=1 calls=1
   end channels=1 calls=1 references=0 timers=0
   $ ./lab live examples/two_cells.toml --journal k --heard 6 </dev/null
-  k: no file has the line that was heard
+  k: no file has the line that --heard names
   [2]
 
 It knows the calls of its book in words, and has all of it in states, also where the file begins with that book.
@@ -56,7 +56,7 @@ It knows the calls of its book in words, and has all of it in states, also where
   > done
   $ cat w100.trace
   in abis 0 0 0833010b # call 1; RF CHANNEL RELEASE ACK tn=3; ignored: this stage doesn't expect it
-  event released 0/0/3 -> refused 8 0/0/3 # call 1; Unexpected: this channel is in use for no call, or doesn't wait for this message of its station
+  event released 0/0/3 -> refused 8 0/0/3 # call 1; Unexpected: no call has this channel, or it doesn't wait for this message of its station
   state channel 0/0/2 off
   state channel 0/0/3 on call 1
   state call 1 record 0/0/3 on
@@ -78,7 +78,7 @@ A record that was cut at the end is dropped.
 
   $ cp -r k m; truncate -s -3 m/*.journal
   $ ./lab live examples/two_cells.toml --journal m </dev/null
-  m/00000000000000000000.journal: the record behind line 4 was cut, and is dropped
+  m/00000000000000000000.journal: the record after line 4 is cut off, and is dropped
   resumed after line 4: channels=1 calls=1
   end channels=1 calls=1 references=0 timers=0
   $ ./lab live examples/two_cells.toml --journal m </dev/null 2>&1 >/dev/null
@@ -93,11 +93,11 @@ cut. What stands behind zeros makes them damage.
   $ ./lab audit examples/two_cells.toml m0/*.journal | tail -1
   same
   $ for folder in m0 m3 mx m0; do ./lab live examples/two_cells.toml --journal $folder </dev/null 2>&1 >/dev/null; done
-  m0/00000000000000000000.journal: the record behind line 5 was cut, and is dropped
+  m0/00000000000000000000.journal: the record after line 5 is cut off, and is dropped
   resumed after line 5: channels=1 calls=1
-  m3/00000000000000000000.journal: the record behind line 4 was cut, and is dropped
+  m3/00000000000000000000.journal: the record after line 4 is cut off, and is dropped
   resumed after line 4: channels=1 calls=1
-  mx/00000000000000000000.journal: record 6 is damaged; a cut behind octet 621 (truncate -s 621) leaves a whole journal, and gives up the records from 6 on, of which none is whole
+  mx/00000000000000000000.journal: record 6 is damaged; truncate -s 621 cuts the file after octet 621, and leaves a whole journal without the records from 6 on; of these none is whole
   resumed after line 5: channels=1 calls=1
 
 Refused are a damaged record, another site, another version, what is no journal, and a file under another name; and nothing is
@@ -105,24 +105,24 @@ changed.
 
   $ cp -r k n; sed -i 's/^in open 1 0 0 3/in open 1 0 0 2/' n/*.journal; cp -r n old
   $ ./lab live examples/two_cells.toml --journal n </dev/null
-  n/00000000000000000000.journal: record 1 is damaged; a cut behind octet 101 (truncate -s 101) leaves a whole journal, and gives up the records from 1 on, of which 5 is the last that is whole
+  n/00000000000000000000.journal: record 1 is damaged; truncate -s 101 cuts the file after octet 101, and leaves a whole journal without the records from 1 on; of these the last whole one is 5
   [2]
   $ diff -r n old
   $ ./lab live examples/one_cell.toml --journal k </dev/null
-  k/00000000000000000000.journal: the journal is of another site
+  k/00000000000000000000.journal: the journal belongs to another site
   [2]
   $ cp -r k o; sed -i '1s/1$/2/' o/*.journal
   $ ./lab live examples/two_cells.toml --journal o </dev/null
-  o/00000000000000000000.journal: the file is a journal of a version that isn't known here
+  o/00000000000000000000.journal: the file is a journal of an unknown version
   [2]
   $ cp -r k p; echo frob >p/00000000000000000000.journal
   $ ./lab live examples/two_cells.toml --journal p </dev/null
-  p/00000000000000000000.journal: the file is no journal
+  p/00000000000000000000.journal: the file isn't a journal
   [2]
 
   $ mkdir u; cp k/00000000000000000000.journal u/00000000000000000007.journal
   $ ./lab live examples/two_cells.toml --journal u </dev/null
-  u/00000000000000000007.journal: the head of the journal has another number than the file's name
+  u/00000000000000000007.journal: the number in the journal's head isn't that of the file's name
   [2]
 
 A hole is refused, too: zeros, and a whole record behind them. It is said where the file can be cut. (The head ends behind octet
@@ -137,12 +137,12 @@ A hole is refused, too: zeros, and a whole record behind them. It is said where 
   > END
   $ python3 holed hole/*.journal; cp -r hole hole.before
   $ ./lab live examples/two_cells.toml --journal hole </dev/null
-  hole/00000000000000000000.journal: record 3 is damaged; a cut behind octet 309 (truncate -s 309) leaves a whole journal, and gives up the records from 3 on, of which 4 is the last that is whole
+  hole/00000000000000000000.journal: record 3 is damaged; truncate -s 309 cuts the file after octet 309, and leaves a whole journal without the records from 3 on; of these the last whole one is 4
   [2]
   $ diff -r hole hole.before
   $ truncate -s 309 hole/*.journal
   $ ./lab live examples/two_cells.toml --journal hole --heard 3 </dev/null
-  hole: no file has the line that was heard
+  hole: no file has the line that --heard names
   [2]
   $ ./lab live examples/two_cells.toml --journal hole --heard 2 </dev/null
   resumed after line 2: channels=0 calls=0
@@ -152,7 +152,7 @@ Refused are a newest file that is empty, or can't be read, and a folder without 
 
   $ cp -r k v; touch v/00000000000000000009.journal; cp -r k w; mkdir w/00000000000000000009.journal
   $ ./lab live examples/two_cells.toml --journal v </dev/null
-  v/00000000000000000009.journal: the file is no journal
+  v/00000000000000000009.journal: the file isn't a journal
   [2]
   $ ./lab live examples/two_cells.toml --journal w </dev/null
   w/00000000000000000009.journal: is a folder
@@ -173,7 +173,7 @@ Nothing is told of a journal that can't be gone on with: before, its last file i
 Where no journal is, no line was heard.
 
   $ mkdir nothing; ./lab live examples/two_cells.toml --journal nothing --heard 1 </dev/null
-  nothing: no file has the line that was heard
+  nothing: no file has the line that --heard names
   [2]
   $ ./lab live examples/two_cells.toml --journal nothing --heard 0 </dev/null
   end channels=0 calls=0 references=0 timers=0
@@ -204,7 +204,7 @@ Files that aren't the journal's are left alone.
 
   $ touch k/notes.txt
   $ ./lab live examples/two_cells.toml --journal k </dev/null 2>&1 >/dev/null
-  k/notes.txt: not of the journal, and left alone
+  k/notes.txt: not a file of the journal, so it is left alone
   resumed after line 5: channels=1 calls=1
 
 A journal is one controller's.
@@ -230,9 +230,9 @@ Its folder may lie in one that may not be read. That is told where a journal beg
   $ unread() { if [ "$(id -u)" = 0 ]; then setpriv --bounding-set=-dac_override,-dac_read_search "$@"; else "$@"; fi; }
   $ mkdir -p above/v; chmod 300 above
   $ for word in v v new; do unread ./lab live examples/two_cells.toml --journal above/$word </dev/null 2>&1 >/dev/null; done
-  above/v: the folder above can't be synced: if power fails, this one may be lost
+  above/v: its parent folder can't be synced: if power fails, this folder may be lost
   resumed after line 0: channels=0 calls=0
-  above/new: the folder above can't be synced: if power fails, this one may be lost
+  above/new: its parent folder can't be synced: if power fails, this folder may be lost
   $ chmod 700 above
 
 Counted is what the lines of a file tell, not its head, whose calls were opened before.
@@ -248,7 +248,7 @@ It may be a link to one.
 
   $ cp -r k real; ln -s real linked
   $ ./lab live examples/two_cells.toml --journal linked </dev/null 2>&1 >/dev/null
-  linked/notes.txt: not of the journal, and left alone
+  linked/notes.txt: not a file of the journal, so it is left alone
   resumed after line 5: channels=1 calls=1
 
 With a short history files are begun, each with the events that lead to its book, and audit reads each as a trace.
@@ -284,7 +284,7 @@ With a short history files are begun, each with the events that lead to its book
   00000000000000000003.journal
   lock
   $ ./lab live examples/two_cells.toml --journal r --heard 1 </dev/null
-  r: no file has the line that was heard
+  r: no file has the line that --heard names
   [2]
   $ ./lab live examples/two_cells.toml --history 3 <lines | cmp - plain
 
@@ -307,7 +307,7 @@ Where lines are missing between files that isn't passed over in silence.
 
   $ cp -r q y; rm y/00000000000000000002.journal
   $ ./lab live examples/two_cells.toml --journal y --heard 1 </dev/null 2>&1
-  y/00000000000000000000.journal: it doesn't have each line up to the next file once
+  y/00000000000000000000.journal: it doesn't have each line before the next file exactly once
   [2]
 
 So where a file before the last one lacks a line.
@@ -320,7 +320,7 @@ So where a file before the last one lacks a line.
   > END
   $ python3 without yy/00000000000000000000.journal
   $ ./lab live examples/two_cells.toml --journal yy --heard 0 </dev/null
-  yy/00000000000000000000.journal: it doesn't have each line up to the next file once
+  yy/00000000000000000000.journal: it doesn't have each line before the next file exactly once
   [2]
 
 An old file that somebody removed hinders none.
@@ -381,7 +381,7 @@ locked, or isn't there.
 A damaged file is none of a trace; a record at the end that was cut is passed over.
 
   $ ./lab audit examples/two_cells.toml n/*.journal
-  n/00000000000000000000.journal: octet 101: the record is damaged
+  n/00000000000000000000.journal: the record at octet 101 is damaged
   file n/00000000000000000000.journal
   [2]
   $ cp -r q t; truncate -s -3 t/00000000000000000003.journal
@@ -447,8 +447,8 @@ its octet 4,096: for 33 lines more behind line 4, which ends with octet 614, eac
   > rm disk/rest; ./lab live examples/two_cells.toml --journal disk/j </dev/null
   > END
   $ mkdir disk; unshare --user --map-root-user --mount sh small
-  disk/j: no space left; the last file isn't written anew, and goes on as it was
-  disk/j/00000000000000000000.journal: the record behind line 2 was cut, and is dropped
+  disk/j: no space left; the last file isn't rewritten; new records are appended to it
+  disk/j/00000000000000000000.journal: the record after line 2 is cut off, and is dropped
   resumed after line 2: channels=1 calls=1
   1: out abis 0 0 0821010b0300060400010801
   in clear 9
@@ -456,19 +456,19 @@ its octet 4,096: for 33 lines more behind line 4, which ends with octet 614, eac
   end channels=1 calls=1 references=0 timers=0
   00000000000000000000.journal
   lock
-  disk/j: no space left; the last file isn't written anew, and goes on as it was
+  disk/j: no space left; the last file isn't rewritten; new records are appended to it
   resumed after line 3: channels=1 calls=1
   1: out abis 0 0 0821010b0300060400010801
   in clear 9
   event look 9 -> refused 1
-  disk/j: no space left; no file is begun, and the last one goes on
+  disk/j: no space left; no new file is begun; records are appended to the last one
   end channels=1 calls=1 references=0 timers=0
   00000000000000000000.journal
   lock
-  disk/j: no space left; the last file isn't written anew, and goes on as it was
+  disk/j: no space left; the last file isn't rewritten; new records are appended to it
   resumed after line 4: channels=1 calls=1
   disk/j: no space left; the controller ends
   disk/new: no space left
-  disk/j/00000000000000000000.journal: the record behind line 37 was cut, and is dropped
+  disk/j/00000000000000000000.journal: the record after line 37 is cut off, and is dropped
   resumed after line 37: channels=1 calls=1
   end channels=1 calls=1 references=0 timers=0

@@ -14,7 +14,7 @@ Behind the tests a report of them in the form of JUnit: a script that is met, on
   </failure></testcase>
   <testcase classname="bsc_lab" name="odd.txt"><failure>line 2
   expected: event open 1 0/0/3 -&gt; &quot;done&quot; &amp; &lt;more&gt;
-  came: no line of a trace is so
+  came: no line of a trace is like this
   </failure></testcase>
   <testcase classname="bsc_lab" name="nothing.txt"><error>the file can&apos;t be read
   </error></testcase>

@@ -24,7 +24,7 @@ Only a message that has layer 3 has it in words.
   cause is 0 to 255, found "256"
   [2]
   $ ./lab encode abis 'DATA INDICATION tn=9 link=0; HANDOVER COMPLETE cause=0' 2>&1 >>printed
-  tn is 0 to 7, with /0 or /1 behind it for half rate, found "9"
+  tn is 0 to 7, with /0 or /1 at the end for half rate, found "9"
   [2]
   $ cat printed
 
@@ -56,6 +56,6 @@ So it is in scripts.
   [2]
   $ printf 'abis 1 1 MEASUREMENT RESULT tn=3 number=0 uplink= power=0; MEASUREMENT REPORT ba=0 dtx=0 full=30 ba3g=0 valid=1 sub=30 si23=0 qfull=0 qsub=0 count=2 n=40/2/21\n' > short.txt
   $ ./lab run examples/two_cells.toml short.txt 2>&1
-  short.txt:1: count is 2 (7 says that there are none), and n stands 1 times
+  short.txt:1: count is 2, but n is given 1 times (none with count 7)
   line 1
   [2]

@@ -7,7 +7,7 @@ Five thousand activations and five thousand releases are handled.
 
   $ held 5000 >held.txt
   $ ./lab run tests/two_cells/site.toml held.txt >trace
-  held.txt: what settings come to isn't looked at: over 100,000 lines would be played for it
+  held.txt: settings without effect aren't looked for: over 100,000 lines would have to be played
   $ grep -c '^in abis 0 0 0822010b080000$' trace
   5000
   $ grep -c '^sim limit$' trace
@@ -20,7 +20,8 @@ Where there is one call more, that is said. The rest doesn't come with the next 
 
   $ (held 5001; echo clear 9) >held.txt
   $ ./lab run tests/two_cells/site.toml held.txt >trace
-  held.txt: what settings come to isn't looked at: over 100,000 lines would be played for it
+  held.txt:25008: this line has no effect: there is no call 9
+  held.txt: settings without effect aren't looked for: over 100,000 lines would have to be played
   $ grep -c '^in abis 0 0 0822010b080000$' trace
   5000
   $ sed -n '/^sim limit$/,$p' trace
@@ -32,7 +33,8 @@ Where there is one call more, that is said. The rest doesn't come with the next 
 The line has no mark of a controller.
 
   $ ./lab run tests/two_controllers/site.toml held.txt --peer tests/two_controllers/peer.toml >trace
-  held.txt: what settings come to isn't looked at: over 100,000 lines would be played for it
+  held.txt:25008: this line has no effect: there is no call 9
+  held.txt: settings without effect aren't looked for: over 100,000 lines would have to be played
   $ grep -c '^1: in abis 0 0 0822010b080000$' trace
   5000
   $ grep -c '^sim limit$' trace
@@ -46,7 +48,7 @@ handled, and the attempt is settled. Where it is one more it never comes.
   $ taken_back 9998 >handled.txt
   $ taken_back 9999 >dropped.txt
   $ ./lab test tests/two_cells/site.toml handled.txt dropped.txt --undo-everywhere
-  ok 1 - handled.txt: undo 2 behind input 29997: same
-  ok 2 - dropped.txt: undo 2 behind input 30000: not settled, the book differs
+  ok 1 - handled.txt: undo 2 after input 29997: same
+  ok 2 - dropped.txt: undo 2 after input 30000: not settled, the book differs
   1..2
   # same 1, held 0, not settled 1, differ 0

@@ -36,7 +36,7 @@ What can't be read is a line that can't be read, before anything runs, and it is
   line 2
   [2]
   $ refused 'abis 0 0 CHANNEL ACTIVATION ACK  tn=3 frame=0' | head -n 1 | sed 's/.*, found/found/'
-  found CHANNEL ACTIVATION ACK  (a blank ends it)
+  found CHANNEL ACTIVATION ACK  (it ends with a blank)
   $ refused 'abis 0 0 CHANNEL tn=3'
   bad.txt:2: HEX is one octet or more, each in two hexadecimal digits, or a message in words, found CHANNEL
   line 2
@@ -46,7 +46,7 @@ What can't be read is a line that can't be read, before anything runs, and it is
   line 2
   [2]
   $ refused 'abis 0 0 channel activation ack tn=3 frame=0'
-  bad.txt:2: HEX is one octet or more, each in two hexadecimal digits, or a message in words, in capitals, found channel
+  bad.txt:2: HEX is one octet or more, each in two hexadecimal digits, or a message in words, with its name in capitals, found channel
   line 2
   [2]
   $ refused 'a 1 deadbee'
@@ -62,11 +62,11 @@ What can't be read is a line that can't be read, before anything runs, and it is
   $ refused 'report 1 full=30 times=' | head -n 1
   bad.txt:2: times is 1 to 255, found nothing
   $ refused 'report 1 full=30 n=1:64' | head -n 1
-  bad.txt:2: n is CELL:LEVEL, 0 to 255 and 0 to 63, with a comma before each further one, six at most, or -, found 1:64
+  bad.txt:2: n is one to six times CELL:LEVEL (0 to 255 and 0 to 63), with a comma between any two, or -, found 1:64
   $ refused 'report 1 full=30 n=- full=30' | head -n 1
-  bad.txt:2: full stands twice
+  bad.txt:2: full is given twice
   $ refused 'report 1 full=30 dtx dtx' | head -n 1
-  bad.txt:2: dtx stands twice
+  bad.txt:2: dtx is given twice
   $ refused 'report 1 full=30 level=3' | head -n 1
   bad.txt:2: FIELD is .*, each once, found level=3 (re)
   $ refused 'report 1 n=-'
@@ -82,13 +82,13 @@ A message that is too long for its link, by one octet; one less is read.
 
   $ octets() { head -c "$1" /dev/zero | od -An -v -tx1 | tr -d ' \n'; }
   $ refused "abis 0 0 DATA INDICATION tn=3 link=0 layer3=$(octets 1016)"
-  bad.txt:2: the message can't be written: it, or a list of octets in it, is too long
+  bad.txt:2: the message, or a list of octets in it, is too long to be written
   line 2
   [2]
   $ refused "abis 0 0 MEASUREMENT RESULT tn=3 number=0 uplink=$(octets 255) power=0 layer3=$(octets 757)" | head -n 1
-  bad.txt:2: the message can't be written: it, or a list of octets in it, is too long
+  bad.txt:2: the message, or a list of octets in it, is too long to be written
   $ refused "a 1 HANDOVER COMMAND layer3=$(octets 251)" | head -n 1
-  bad.txt:2: the message can't be written: it, or a list of octets in it, is too long
+  bad.txt:2: the message, or a list of octets in it, is too long to be written
   $ for message in "abis 0 0 DATA INDICATION tn=3 link=0 layer3=$(octets 1015)" "abis 0 0 MEASUREMENT RESULT tn=3 number=0 uplink=$(octets 255) power=0 layer3=$(octets 756)" "a 1 HANDOVER COMMAND layer3=$(octets 250)"; do
   >   refused "$message" | grep -c '^in a'
   > done
@@ -121,25 +121,25 @@ awaited. A test of it isn't met.
   out abis 0 0 0821010b0300060400010801
   end channels=1 calls=1 references=0 timers=0
   $ ./lab run examples/two_cells.toml vain.txt 2>&1 >/dev/null
-  vain.txt:1: nothing comes of it: there is no call 1
-  vain.txt:2: nothing comes of it: there is no call 1
-  vain.txt:3: nothing comes of it: no call is in a cell with these neighbours
-  vain.txt:5: nothing comes of it: the release of no channel of call 1 is awaited
-  vain.txt:6: nothing comes of it: cell 0 isn't in the neighbour list of cell 0
-  vain.txt:7: nothing comes of it: cell 9 isn't in the neighbour list of cell 0
+  vain.txt:1: this line has no effect: there is no call 1
+  vain.txt:2: this line has no effect: there is no call 1
+  vain.txt:3: this line has no effect: no call is in a cell with these neighbours
+  vain.txt:5: this line has no effect: no channel of call 1 awaits its release
+  vain.txt:6: this line has no effect: cell 0 isn't in the neighbour list of cell 0
+  vain.txt:7: this line has no effect: cell 9 isn't in the neighbour list of cell 0
   $ ./lab test examples/two_cells.toml vain.txt 2>/dev/null
   1..1
   not ok 1 - vain.txt
-  # line 1 comes to nothing
-  # line 2 comes to nothing
-  # line 3 comes to nothing
-  # line 5 comes to nothing
-  # line 6 comes to nothing
-  # line 7 comes to nothing
+  # line 1 has no effect
+  # line 2 has no effect
+  # line 3 has no effect
+  # line 5 has no effect
+  # line 6 has no effect
+  # line 7 has no effect
   [1]
   $ ./lab live examples/two_cells.toml <vain.txt 2>&1 >/dev/null | head -n 2
-  standard input:1: nothing comes of it: there is no call 1
-  standard input:2: nothing comes of it: there is no call 1
+  standard input:1: this line has no effect: there is no call 1
+  standard input:2: this line has no effect: there is no call 1
 
 A release that is awaited is that of the call which had the channel last.
 
@@ -149,7 +149,7 @@ A release that is awaited is that of the call which had the channel last.
   event released 0/0/3 -> done
   end channels=0 calls=0 references=0 timers=0
   $ cat errors
-  last.txt:7: nothing comes of it: the release of no channel of call 1 is awaited
+  last.txt:7: this line has no effect: no channel of call 1 awaits its release
 
 Of each input it is known which line gave it.
 
@@ -178,4 +178,4 @@ Two controllers: a call comes from another one; its station answers about its ta
   2: in abis 0 0 082701091100
   2: in abis 0 0 0302010902000b0003062c00
   $ cat errors
-  two.txt:5: nothing comes of it: call 40000 is on no channel
+  two.txt:5: this line has no effect: call 40000 is on no channel

@@ -54,7 +54,7 @@ Lines may end with a carriage return, the last one with nothing. Comments and bl
   out abis 0 0 082e010b
   end channels=1 calls=0 references=0 timers=0
   $ cat errors
-  standard input:4: nothing stands behind clear CALL, found 2
+  standard input:4: nothing may follow clear CALL, found 2
 
 A line that can't be read changes nothing, and the next is read: one of the second controller, one that needs sim where that
 wasn't said, one that isn't UTF-8, one that is too long. One octet less is read.
@@ -75,19 +75,19 @@ wasn't said, one that isn't UTF-8, one that is too long. One octet less is read.
   line 8
   end channels=0 calls=0 references=0 timers=0
   $ cat errors
-  standard input:1: 2: is for a second controller, and live runs one alone
+  standard input:1: 2: is for a second controller, but live runs only one
   standard input:2: mobile CELL TRX TN HABIT needs a line sim before it
-  standard input:3: TN is 0 to 7, with /0 or /1 behind it for half rate, found 8
+  standard input:3: TN is 0 to 7, with /0 or /1 at the end for half rate, found 8
   standard input:4: isn't UTF-8 (octet 3)
-  standard input:5: a line has at most 65,536 octets
-  standard input:7: a byte order mark stands before the first word
-  standard input:8: nothing stands behind sim, found a blank
+  standard input:5: the line has over 65,536 octets
+  standard input:7: the line begins with a byte order mark
+  standard input:8: nothing may follow sim, found a blank
 
 What may stand in a line is named, the line summary too.
 
   $ printf 'Summary\nsummary extra\n' | ./lab live examples/two_cells.toml 2>&1 >/dev/null | sed 's/ open, .* with #/ .. with #/'
   standard input:1: a line begins with .. with #, or is summary, found Summary
-  standard input:2: nothing stands behind summary
+  standard input:2: nothing may follow summary
 
 Behind sim the lines that need it are read, and the others are as before.
 
@@ -103,8 +103,8 @@ Behind sim the lines that need it are read, and the others are as before.
   event look 1 -> record 0/0/3 on
   end channels=1 calls=1 references=0 timers=0
   $ cat errors
-  standard input:4: TN is 0 to 7, with /0 or /1 behind it for half rate, found 9
-  standard input:5: 2: is for a second controller, and live runs one alone
+  standard input:4: TN is 0 to 7, with /0 or /1 at the end for half rate, found 9
+  standard input:5: 2: is for a second controller, but live runs only one
 
 Octets that are no message are a fault, as in a run.
 

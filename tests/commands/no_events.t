@@ -6,7 +6,7 @@ A trace with one event, in which no attempt opens.
   no attempt
   [2]
   $ cat errors
-  look.trace: no attempt that is undone later opens in line 1
+  look.trace: line 1 doesn't open an attempt that is undone later
 
 A script in which no attempt opens has none that could be taken back.
 
@@ -15,7 +15,7 @@ A script in which no attempt opens has none that could be taken back.
   1..0
   # same 0, held 0, not settled 0, differ 0
   $ cat errors
-  no attempts: nothing was taken back
+  no attempt was open, so none was undone
 
 An undo of a call that has no attempt is refused for that alone; words say it.
 

@@ -56,7 +56,8 @@ They are those whose words name it. What has no call, as octets that name no cha
 
   $ printf 'abis 0 0 08\nhandover 1 9\n' >>two_calls.txt
   $ ./lab run examples/two_cells.toml two_calls.txt --words | grep -w -e 'call 1' -e '^end' >named
-  $ ./lab run examples/two_cells.toml two_calls.txt --words --call 1 | cmp - named
+  two_calls.txt:7: this line has no effect: the site has no cell 9
+  $ ./lab run examples/two_cells.toml two_calls.txt --words --call 1 2>/dev/null | cmp - named
   $ grep -c . named
   14
 
@@ -65,14 +66,16 @@ Where no line is of the call, that is told; of two controllers where none of eit
   $ ./lab run examples/two_cells.toml two_calls.txt --call 3 2>errors
   end channels=0 calls=0 references=0 timers=0
   $ cat errors
-  no line is of call 3
+  no line is about call 3
+  two_calls.txt:7: this line has no effect: the site has no cell 9
   $ ./lab run examples/two_cells.toml two_calls.txt --call 3 --words --chart run.svg 2>&1 >/dev/null
-  no line is of call 3
+  no line is about call 3
+  two_calls.txt:7: this line has no effect: the site has no cell 9
   $ printf 'open 1 0 0 3\n2: open 2 0 0 1\n' >each.txt
   $ for call in 1 2 3; do ./lab run examples/two_cells.toml each.txt --peer examples/one_cell.toml --call $call 2>&1 >/dev/null; done
-  no line is of call 3
+  no line is about call 3
   $ ./lab run examples/two_cells.toml two.txt --call 9 2>&1 >/dev/null
-  two.txt:5: 2: is for a second controller, and there is none (--peer SITE)
+  two.txt:5: 2: is for a second controller, but there is none (--peer SITE)
   [2]
 
 Of two controllers the lines of either's call of that number are shown.
@@ -88,10 +91,11 @@ Of two controllers the lines of either's call of that number are shown.
   1: end channels=2 calls=2 references=0 timers=0
   2: end channels=1 calls=1 references=0 timers=0
 
-On a chart inputs keep their numbers; counts and captures have all.
+On a chart, whose title names the call, inputs keep their numbers; counts and captures have all.
 
-  $ ./lab run examples/two_cells.toml two_calls.txt --call 2 --chart run.svg --pcap run.pcap --summary >printed
+  $ ./lab run examples/two_cells.toml two_calls.txt --call 2 --chart run.svg --pcap run.pcap --summary >printed 2>/dev/null
   $ sed -n 's/^<text x="12" .*>\(.*\)<.text>$/\1/p' run.svg
+  two_calls.txt over examples/two_cells.toml, call 2
   3 open 2 0 0 2
   4
   7 clear 2
@@ -99,7 +103,7 @@ On a chart inputs keep their numbers; counts and captures have all.
   $ grep 'calls opened$' printed
   summary all            2 calls opened
   summary cell 0         2 calls opened
-  $ ./lab run examples/two_cells.toml two_calls.txt --pcap whole.pcap >/dev/null
+  $ ./lab run examples/two_cells.toml two_calls.txt --pcap whole.pcap >/dev/null 2>&1
   $ cmp run.pcap whole.pcap
 
 What a book holds is of all calls, and an audit names lines of the whole trace, so neither goes with one call.

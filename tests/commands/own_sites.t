@@ -71,7 +71,7 @@ A script that names none is refused without one, and those behind it are tested 
   [2]
   $ printf '#%% site own.toml\n#%% site own.toml\n' >town/twice.txt
   $ ./lab run town/twice.txt
-  town/twice.txt:2: line 1 has named one: a script names one site, and one peer
+  town/twice.txt:2: line 1 names one already: a script names at most one site and one peer
   [2]
   $ printf '#%% site nothing.toml\n' >town/lost.txt
   $ ./lab run town/lost.txt

@@ -2,7 +2,7 @@ A script is recorded: each line ends as it did, and comments that expected somet
 
   $ printf '# A call.\r\nopen 1 0 0 3\r\n#> old\r\n\r\n# Its station answers.\nabis 0 0 0822010b081234' >script.txt
   $ ./lab record examples/two_cells.toml script.txt
-  script.txt: the last line has no line feed: it may be cut
+  script.txt: the last line has no line feed, and may be cut off
   # A call.\r (esc)
   open 1 0 0 3\r (esc)
   #> in open 1 0 0 3\r (esc)
@@ -19,7 +19,7 @@ A script is recorded: each line ends as it did, and comments that expected somet
 The record of a record is the same.
 
   $ ./lab record examples/two_cells.toml script.txt >recorded.txt
-  script.txt: the last line has no line feed: it may be cut
+  script.txt: the last line has no line feed, and may be cut off
   $ ./lab record examples/two_cells.toml recorded.txt
   # A call.\r (esc)
   open 1 0 0 3\r (esc)
@@ -52,12 +52,12 @@ How a last line ends stays as it is, but that comments which follow begin a line
   #> end channels=0 calls=0 references=0 timers=0
   $ printf '# note' >script.txt
   $ ./lab record examples/two_cells.toml script.txt
-  script.txt: the last line has no line feed: it may be cut
+  script.txt: the last line has no line feed, and may be cut off
   #> end channels=0 calls=0 references=0 timers=0
   # note (no-eol)
   $ printf '# note\r\n\t' >script.txt
   $ ./lab record examples/two_cells.toml script.txt
-  script.txt: the last line has no line feed: it may be cut
+  script.txt: the last line has no line feed, and may be cut off
   #> end channels=0 calls=0 references=0 timers=0
   # note\r (esc)
   \t (no-eol) (esc)
@@ -68,23 +68,23 @@ How a last line ends stays as it is, but that comments which follow begin a line
   
   $ printf 'sim' >script.txt
   $ ./lab record examples/two_cells.toml script.txt
-  script.txt: the last line has no line feed: it may be cut
+  script.txt: the last line has no line feed, and may be cut off
   sim
   #> end channels=0 calls=0 references=0 timers=0
   $ printf 'sim\r' >script.txt
   $ ./lab record examples/two_cells.toml script.txt
-  script.txt: the last line has no line feed: it may be cut
+  script.txt: the last line has no line feed, and may be cut off
   sim\r (esc)
   #> end channels=0 calls=0 references=0 timers=0\r (esc)
   $ printf 'sim\n# note\r' >script.txt
   $ ./lab record examples/two_cells.toml script.txt
-  script.txt: the last line has no line feed: it may be cut
+  script.txt: the last line has no line feed, and may be cut off
   sim
   #> end channels=0 calls=0 references=0 timers=0
   # note\r (no-eol) (esc)
   $ printf 'sim\n# note\n#> old' >script.txt
   $ ./lab record examples/two_cells.toml script.txt
-  script.txt: the last line has no line feed: it may be cut
+  script.txt: the last line has no line feed, and may be cut off
   sim
   #> end channels=0 calls=0 references=0 timers=0
   # note
@@ -113,7 +113,7 @@ it that expects something is needed: with another, the test names that line.
   ok 1 - recorded.txt
   $ printf 'sim' >script.txt
   $ is_recorded
-  script.txt: the last line has no line feed: it may be cut
+  script.txt: the last line has no line feed, and may be cut off
   1..1
   ok 1 - recorded.txt
   $ cat >script.txt <<'END'
@@ -131,7 +131,7 @@ it that expects something is needed: with another, the test names that line.
   ok 1 - recorded.txt
   $ printf 'open 1 0 0 3\n#> old\n# kept\n#> ..\nabis 0 0 0822010b081234\nabis 0 0 ff' >script.txt
   $ is_recorded
-  script.txt: the last line has no line feed: it may be cut
+  script.txt: the last line has no line feed, and may be cut off
   1..1
   ok 1 - recorded.txt
   $ cat >script.txt <<'END'
@@ -161,9 +161,91 @@ What run says of a script is said of it, too: lines that come to nothing, and a 
 
   $ printf 'sim\nrefuse 0 0 5\nopen 1 0 0 3\nrefuse 0 0 3\nanswer 2 ack' >script.txt
   $ ./lab record examples/two_cells.toml script.txt 2>&1 >/dev/null
-  script.txt: the last line has no line feed: it may be cut
+  script.txt: the last line has no line feed, and may be cut off
   script.txt:2: the site has no channel 0/0/5
-  script.txt:4: never used: nothing comes of it on 0/0/3
-  script.txt:5: nothing comes of it: there is no call 2
+  script.txt:4: this line has no effect: it is never used on 0/0/3
+  script.txt:5: this line has no effect: there is no call 2
   $ ./lab run examples/two_cells.toml script.txt 2>said >/dev/null
   $ ./lab record examples/two_cells.toml script.txt 2>&1 >/dev/null | cmp - said
+
+With `--accept LINE` what came at one line of the script is taken, or at the one that this line stands behind. All other lines stay.
+
+  $ cat >script.txt <<'END'
+  > # Two calls.
+  > open 1 0 0 3
+  > #> event open 1 0/0/3 -> refused 4
+  > #> ..
+  > 
+  > # The second.
+  > open 2 0 0 2
+  > #> ..
+  > #! out a
+  > END
+  $ ./lab record examples/two_cells.toml script.txt --accept 2 | tee accepted.txt
+  # Two calls.
+  open 1 0 0 3
+  #> in open 1 0 0 3
+  #> event open 1 0/0/3 -> done
+  #> out abis 0 0 0821010b0300060400010801
+  
+  # The second.
+  open 2 0 0 2
+  #> ..
+  #! out a
+  $ for line in 3 4 5 6; do ./lab record examples/two_cells.toml script.txt --accept $line | cmp - accepted.txt; done
+  $ ./lab record examples/two_cells.toml script.txt --accept 6 --words --states | sed -n 3,6p
+  #> event open 1 0/0/3 -> done
+  #> out abis 0 0 CHANNEL ACTIVATION tn=3 activation=0 mode=00010801 reference=-
+  #= channels 0/0/3
+  #= call 1 0/0/3
+  $ ./lab record examples/two_cells.toml script.txt --accept 9
+  # Two calls.
+  open 1 0 0 3
+  #> event open 1 0/0/3 -> refused 4
+  #> ..
+  
+  # The second.
+  open 2 0 0 2
+  #> in open 2 0 0 2
+  #> event open 2 0/0/2 -> done
+  #> out abis 0 0 0821010a0300060400010801
+  #> end channels=2 calls=2 references=0 timers=0
+  #! out a
+  $ ./lab record examples/two_cells.toml script.txt --accept 1 | cmp - script.txt
+
+So it is where what came is taken at one place after another: that is the record of the whole.
+
+  $ cp script.txt taken.txt
+  $ for line in 7 2; do
+  >   ./lab record examples/two_cells.toml taken.txt --accept $line >next.txt
+  >   mv next.txt taken.txt
+  > done
+  $ ./lab record examples/two_cells.toml script.txt | cmp - taken.txt
+  $ ./lab test examples/two_cells.toml taken.txt
+  1..1
+  ok 1 - taken.txt
+
+The last line gets a line feed only where comments follow it.
+
+  $ printf 'open 1 0 0 3\n#> ..\nclear 1' >cut.txt
+  $ ./lab record examples/two_cells.toml cut.txt --accept 1 2>/dev/null
+  open 1 0 0 3
+  #> in open 1 0 0 3
+  #> event open 1 0/0/3 -> done
+  #> out abis 0 0 0821010b0300060400010801
+  clear 1 (no-eol)
+  $ ./lab record examples/two_cells.toml cut.txt --accept 3 2>/dev/null | head -n 4
+  open 1 0 0 3
+  #> ..
+  clear 1
+  #> in clear 1
+
+A line that the script lacks is refused.
+
+  $ ./lab record examples/two_cells.toml script.txt --accept 10
+  script.txt:10: the script has 9 lines
+  line 10
+  [2]
+  $ ./lab record examples/two_cells.toml script.txt --accept 0
+  error: *'0'*'--accept <LINE>'*; LINE is a number, 1 or more* (glob)
+  [2]

@@ -53,17 +53,17 @@ isn't yet; in the third call 2 is refused the channel that the attempt holds.
   no attempt
   [2]
   $ cat errors
-  undone.trace: no attempt that is undone later opens in line 1
+  undone.trace: line 1 doesn't open an attempt that is undone later
   $ ./lab rewind examples/two_cells.toml undone.trace 2 2>errors
   no attempt
   [2]
   $ cat errors
-  undone.trace: no attempt that is undone later opens in line 2
+  undone.trace: line 2 doesn't open an attempt that is undone later
   $ ./lab rewind examples/two_cells.toml undone.trace 100 2>errors
   no attempt
   [2]
   $ cat errors
-  undone.trace: no attempt that is undone later opens in line 100
+  undone.trace: line 100 doesn't open an attempt that is undone later
 
 Of a long trace, too: 5,000 events of others stand between the undo and the release.
 
@@ -84,13 +84,13 @@ Nothing opens in a line that no trace has.
   no attempt
   [2]
   $ cat errors
-  run.trace: no attempt that is undone later opens in line 1
+  run.trace: line 1 doesn't open an attempt that is undone later
   $ printf 'event look 1 -> done\nevent look 01 -> done' >run.trace
   $ ./lab rewind examples/two_cells.toml run.trace 1 2>errors
   line 2
   [2]
   $ cat errors
-  run.trace:2: no event with its reply, as run prints it: event look 1 -> refused 1
+  run.trace:2: this isn't an event with its reply, as in: event look 1 -> refused 1
   $ printf 'event look 1\n' >run.trace
   $ ./lab rewind examples/two_cells.toml run.trace 1 2>/dev/null
   line 1
@@ -104,13 +104,13 @@ Nothing opens in a line that no trace has.
   line 3
   [2]
   $ cat errors
-  run.trace:3: a line of the trace of two controllers, and rewind takes that of one
+  run.trace:3: this is a trace of two controllers, but rewind reads the trace of one
   $ printf 'event look 1 -> done\n' >run.trace
   $ ./lab rewind examples/two_cells.toml run.trace 1 2>errors
   line 1
   [2]
   $ cat errors
-  run.trace:1: the book of this site replies "refused 1" here, and the trace says "done"
+  run.trace:1: the book of this site replies "refused 1" here, but the trace says "done"
   $ printf 'event look 1 -> refused 1\r\nevent look 1 -> refused 1 \r\n' >run.trace
   $ ./lab rewind examples/two_cells.toml run.trace 1 2>/dev/null
   line 2
@@ -120,7 +120,7 @@ Nothing opens in a line that no trace has.
   no attempt
   [2]
   $ cat errors
-  run.trace: no attempt that is undone later opens in line 1
+  run.trace: line 1 doesn't open an attempt that is undone later
 
 Why nothing is taken out.
 
@@ -129,61 +129,61 @@ Why nothing is taken out.
   line 1
   [2]
   $ cat errors
-  run.trace:1: no event with its reply, as run prints it: event look 1 -> refused 1
+  run.trace:1: this isn't an event with its reply, as in: event look 1 -> refused 1
   $ printf 'in clear 1\nevent look 1 -> refused 1\r\nevent look 1 -> done\nevent look 1 -> owned 1\nend channels=0 calls=0 references=0 timers=0\n' >run.trace
   $ ./lab rewind examples/two_cells.toml run.trace 2 2>errors
   line 3
   [2]
   $ cat errors
-  run.trace:3: the book of this site replies "refused 1" here, and the trace says "done"
+  run.trace:3: the book of this site replies "refused 1" here, but the trace says "done"
   $ printf 'event open 1 0/0/3 -> done\nevent confirm 0/0/3 -> owned 1\nevent look 1 -> record 0/0/4 on\n' >run.trace
   $ ./lab rewind examples/two_cells.toml run.trace 1 2>errors
   line 3
   [2]
   $ cat errors
-  run.trace:3: the book of this site replies "record 0/0/3 on" here, and the trace says "record 0/0/4 on"
+  run.trace:3: the book of this site replies "record 0/0/3 on" here, but the trace says "record 0/0/4 on"
   $ printf 'event look 1 -> refused 1 \r\n' >run.trace
   $ ./lab rewind examples/two_cells.toml run.trace 1 2>errors
   line 1
   [2]
   $ cat errors
-  run.trace:1: the book of this site replies "refused 1" here, and the trace says "refused 1 "
+  run.trace:1: the book of this site replies "refused 1" here, but the trace says "refused 1 "
   $ printf 'event look 1 -> \n' >run.trace
   $ ./lab rewind examples/two_cells.toml run.trace 1 2>errors
   line 1
   [2]
   $ cat errors
-  run.trace:1: the book of this site replies "refused 1" here, and the trace says ""
+  run.trace:1: the book of this site replies "refused 1" here, but the trace says ""
   $ printf 'event look 1 -> \033[31m -> \tdone\n' >run.trace
   $ ./lab rewind examples/two_cells.toml run.trace 1 2>errors
   line 1
   [2]
   $ cat errors
-  run.trace:1: the book of this site replies "refused 1" here, and the trace says "\u{1b}[31m -> \tdone"
+  run.trace:1: the book of this site replies "refused 1" here, but the trace says "\u{1b}[31m -> \tdone"
   $ printf 'event look 1 -> x123456789x123456789x123456789x123456789x123456789x123456789\n' >run.trace
   $ ./lab rewind examples/two_cells.toml run.trace 1 2>errors
   line 1
   [2]
   $ cat errors
-  run.trace:1: the book of this site replies "refused 1" here, and the trace says "x123456789x123456789x123456789x123456789x123456789x123456789"
+  run.trace:1: the book of this site replies "refused 1" here, but the trace says "x123456789x123456789x123456789x123456789x123456789x123456789"
   $ printf 'event look 1 -> x123456789x123456789x123456789x123456789x123456789x123456789y\n' >run.trace
   $ ./lab rewind examples/two_cells.toml run.trace 1 2>errors
   line 1
   [2]
   $ cat errors
-  run.trace:1: the book of this site replies "refused 1" here, and the trace says "x123456789x123456789x123456789x123456789x123456789x123456789"..
+  run.trace:1: the book of this site replies "refused 1" here, but the trace says "x123456789x123456789x123456789x123456789x123456789x123456789"..
   $ printf 'event look 1 -> refused 1 # call 1; NoCall: there is no such call\n' >run.trace
   $ ./lab rewind examples/two_cells.toml run.trace 1 2>errors
   line 1
   [2]
   $ cat errors
-  run.trace:1: words stand behind this event, as run prints it with --words
+  run.trace:1: words follow this event: the trace was printed with --words
   $ printf 'event look 1 -> refused 1\n' >run.trace
   $ ./lab rewind examples/two_cells.toml run.trace 1 2>errors
   no attempt
   [2]
   $ cat errors
-  run.trace: no attempt that is undone later opens in line 1
+  run.trace: line 1 doesn't open an attempt that is undone later
 
 A control character in the trace's name is escaped.
 
@@ -192,7 +192,7 @@ A control character in the trace's name is escaped.
   no attempt
   [2]
   $ cat errors
-  unwound\t.trace: no attempt that is undone later opens in line 1
+  unwound\t.trace: line 1 doesn't open an attempt that is undone later
 
 Attempts are taken out of traces that were printed. Call 1 is on, and an attempt to move it opens in line 9: the station
 is asked to activate the target.
@@ -314,11 +314,12 @@ It is never undone.
   > clear 2
   > END
   $ ./lab run examples/two_cells.toml script.txt >run.trace
+  script.txt:4: this line has no effect: there is no call 2
   $ ./lab rewind examples/two_cells.toml run.trace 9 2>errors
   no attempt
   [2]
   $ cat errors
-  run.trace: no attempt that is undone later opens in line 9
+  run.trace: line 9 doesn't open an attempt that is undone later
 
 An attempt to move call 1 to another controller is taken back.
 

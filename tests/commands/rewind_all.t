@@ -99,7 +99,7 @@ Of two controllers each side is taken by itself, over its own site.
   line 1
   [2]
   $ cat errors
-  two.trace:1: a line of the trace of two controllers, and rewind without --peer takes that of one
+  two.trace:1: this is a trace of two controllers, but rewind without --peer reads the trace of one
 
 The status is 1 where an attempt of the second controller alone differs.
 
@@ -126,10 +126,10 @@ A line without its mark is refused, and so is a first one behind a byte order ma
   line 1
   [2]
   $ tail -n 4 errors
-  bad.trace:1: in the trace of two controllers 1: or 2: stands before this line
-  bad.trace:9: in the trace of two controllers 1: or 2: stands before this line
-  bad.trace:13: in the trace of two controllers 1: or 2: stands before this line
-  bad.trace:1: a byte order mark stands before the first word
+  bad.trace:1: in a trace of two controllers this line has to begin with 1: or 2:
+  bad.trace:9: in a trace of two controllers this line has to begin with 1: or 2:
+  bad.trace:13: in a trace of two controllers this line has to begin with 1: or 2:
+  bad.trace:1: the line begins with a byte order mark
   $ sed '12a sim limit' two.trace >limit.trace
   $ ./lab rewind examples/two_cells.toml limit.trace --all --peer examples/one_cell.toml | sed 's/ others .* settled/ .. settled/'
   1: line 9 call 1 outgoing required .. settled yes held - choices - same
@@ -153,13 +153,13 @@ wrong.
   line 13
   [2]
   $ cat errors
-  bad.trace:13: the book of this site replies "done" here, and the trace says "owned 1"
+  bad.trace:13: the book of this site replies "done" here, but the trace says "owned 1"
   $ printf 'event look 1 -> done\n' >bad.trace
   $ ./lab rewind examples/two_cells.toml bad.trace --all 2>errors
   line 1
   [2]
   $ cat errors
-  bad.trace:1: the book of this site replies "refused 1" here, and the trace says "done"
+  bad.trace:1: the book of this site replies "refused 1" here, but the trace says "done"
   $ printf 'end channels=0 calls=0 references=0 timers=0\n' >none.trace
   $ ./lab rewind examples/two_cells.toml none.trace --all
   $ ./lab rewind examples/two_cells.toml none.trace 2>&1

@@ -18,7 +18,7 @@ that of the second controller behind `2:`, and what is asked of the book for it.
   > abis 255 1 CHANNEL ACTIVATION NACK cause=32 tn=3/1
   > 2: a 7 CLEAR COMMAND cause=9
   > END
-  $ ./lab run examples/two_cells.toml script.txt --peer examples/one_cell.toml
+  $ ./lab run examples/two_cells.toml script.txt --peer examples/one_cell.toml 2>errors
   1: in open 1 255 254 7
   1: event open 1 255/254/7 -> refused 4
   1: in handover 2 255
@@ -52,6 +52,23 @@ that of the second controller behind `2:`, and what is asked of the book for it.
   1: end channels=0 calls=0 references=0 timers=0
   2: end channels=0 calls=0 references=0 timers=0
 
+Where nothing could come of one, standard error says why.
+
+  $ cat errors
+  script.txt:3: this line has no effect: the site has no channel 255/254/7
+  script.txt:4: this line has no effect: the site has no cell 255
+  script.txt:5: this line has no effect: there is no call 65535
+  script.txt:6: this line has no effect: there is no call 0
+  script.txt:7: this line has no effect: there is no call 1
+  script.txt:8: this line has no effect: there is no call 1
+  script.txt:9: this line has no effect: there is no call 2
+  script.txt:10: this line has no effect: the site has no cell 255
+  script.txt:12: this line has no effect: the site has no channel 0/1/7/0
+  script.txt:13: this line has no effect: the site has no channel 0/1/0/1
+  script.txt:14: this line has no effect: the site has no cell 6
+  script.txt:15: this line has no effect: the second controller's site has no half-rate channel in cell 0
+  script.txt:16: this line has no effect: the site has no cell 255
+
 Lines for the simulators give no input but what comes of them; which channel each is about is said, where the site has none.
 
   $ cat >script.txt <<'END'
@@ -70,6 +87,10 @@ Lines for the simulators give no input but what comes of them; which channel eac
   > report 7 full=30 n=1:40,64:63
   > 2: answer 65535 released
   > 2: mobile 8 vanish
+  > restart 255
+  > restart 0 254
+  > 2: restart 0 1
+  > 2: restart 0
   > END
   $ ./lab run examples/two_cells.toml script.txt --peer examples/one_cell.toml 2>errors
   2: in a 9 000420040109
@@ -88,6 +109,9 @@ Lines for the simulators give no input but what comes of them; which channel eac
   script.txt:9: the site has no channel 255/254/7/0
   script.txt:10: the second controller's site has no channel 255/254/7/1
   script.txt:11: the site has no channel 255/254/7
-  script.txt:13: nothing comes of it: there is no call 7
-  script.txt:14: nothing comes of it: the release of no channel of call 65535 is awaited
-  script.txt:15: nothing comes of it: there is no call 8
+  script.txt:13: this line has no effect: there is no call 7
+  script.txt:14: this line has no effect: no channel of call 65535 awaits its release
+  script.txt:15: this line has no effect: there is no call 8
+  script.txt:16: the site has no cell 255
+  script.txt:17: the site has no TRX 254 in cell 0
+  script.txt:18: the second controller's site has no TRX 1 in cell 0

@@ -29,19 +29,19 @@ Nothing runs before all lines are read. The first script's name has a tab, which
   line 1
   [2]
   $ cat errors
-  unread\t.txt:1: TN is 0 to 7, with /0 or /1 behind it for half rate, found 8
+  unread\t.txt:1: TN is 0 to 7, with /0 or /1 at the end for half rate, found 8
   $ ./lab record examples/two_cells.toml "$(printf 'unread\t.txt')" 2>errors
   line 1
   [2]
   $ cat errors
-  unread\t.txt:1: TN is 0 to 7, with /0 or /1 behind it for half rate, found 8
+  unread\t.txt:1: TN is 0 to 7, with /0 or /1 at the end for half rate, found 8
   $ ./lab test examples/two_cells.toml "$(printf 'unread\t.txt')" 2>errors
   1..1
   not ok 1 - unread\t.txt
   # line 1 can't be read
   [2]
   $ cat errors
-  unread\t.txt:1: TN is 0 to 7, with /0 or /1 behind it for half rate, found 8
+  unread\t.txt:1: TN is 0 to 7, with /0 or /1 at the end for half rate, found 8
   $ printf '# a call\n\nopen 1 0 0 3\r\nopen 70000 0 0 4\r\n' >unread.txt
   $ ./lab run examples/two_cells.toml unread.txt 2>errors
   line 4
@@ -101,19 +101,19 @@ Nothing runs before all lines are read. The first script's name has a tab, which
   line 1
   [2]
   $ cat errors
-  unread.txt:1: 2: is for a second controller, and there is none (--peer SITE)
+  unread.txt:1: 2: is for a second controller, but there is none (--peer SITE)
   $ ./lab record examples/two_cells.toml unread.txt 2>errors
   line 1
   [2]
   $ cat errors
-  unread.txt:1: 2: is for a second controller, and there is none (--peer SITE)
+  unread.txt:1: 2: is for a second controller, but there is none (--peer SITE)
   $ ./lab test examples/two_cells.toml unread.txt 2>errors
   1..1
   not ok 1 - unread.txt
   # line 1 can't be read
   [2]
   $ cat errors
-  unread.txt:1: 2: is for a second controller, and there is none (--peer SITE)
+  unread.txt:1: 2: is for a second controller, but there is none (--peer SITE)
   $ printf 'mobile 1 arrive\n' >unread.txt
   $ ./lab run examples/two_cells.toml unread.txt 2>errors
   line 1

@@ -2,6 +2,7 @@ A call begins on some free channel of a cell: the words of the line, and those t
 
   $ printf 'seize 007 0 full\nseize 2 1 half\nseize 8 0 half\n' >seized.txt
   $ ./lab run tests/half_rate/site.toml seized.txt
+  seized.txt:3: this line has no effect: the site has no half-rate channel in cell 0
   in seize 7 0 full
   event open 7 0/0/2 -> done
   out abis 0 0 0821010a0300060400010801
@@ -14,9 +15,10 @@ A call begins on some free channel of a cell: the words of the line, and those t
 
 What a run printed can be played again.
 
-  $ ./lab run tests/half_rate/site.toml seized.txt | sed -n 's/^in //p' >again.txt
+  $ ./lab run tests/half_rate/site.toml seized.txt 2>/dev/null | sed -n 's/^in //p' >again.txt
   $ ./lab run tests/half_rate/site.toml again.txt >again.trace
-  $ ./lab run tests/half_rate/site.toml seized.txt | cmp - again.trace
+  again.txt:3: this line has no effect: the site has no half-rate channel in cell 0
+  $ ./lab run tests/half_rate/site.toml seized.txt 2>/dev/null | cmp - again.trace
   $ printf 'seize 7 0 full\nclear 7\n' | ./lab live tests/half_rate/site.toml
   in seize 7 0 full
   event open 7 0/0/2 -> done
@@ -47,8 +49,8 @@ What a run printed can be played again.
   unread.txt:1: CELL is 0 to 255, found 256
   [2]
   $ unread 'seize 1 0 full 3'
-  unread.txt:1: nothing stands behind seize CALL CELL RATE, found 3
+  unread.txt:1: nothing may follow seize CALL CELL RATE, found 3
   [2]
   $ unread '2: seize 1 0 full'
-  unread.txt:1: 2: is for a second controller, and there is none (--peer SITE)
+  unread.txt:1: 2: is for a second controller, but there is none (--peer SITE)
   [2]

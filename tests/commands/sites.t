@@ -49,7 +49,7 @@ stands in another's place each time.
   site 3 trx
   [2]
   $ cat errors
-  refused.toml: cell 0: trx: an array of 0 entries isn't an array of 1 to 4 tables
+  refused.toml: cell 0: trx: it has 0 entries, but has to be an array of 1 to 4 tables
   $ sed -z 's/arfcn = 871/arfcn = 870/' site.toml >refused.toml
   $ ./lab run refused.toml /dev/null 2>errors
   site 3 arfcn
@@ -73,37 +73,37 @@ stands in another's place each time.
   site 4 identity
   [2]
   $ cat errors
-  refused.toml: cell 1 and outside 0 (cell 64) have the same lac and ci, which no two cells may have
+  refused.toml: cell 1 and outside 0 (cell 64) have the same lac and ci, but no two cells may
   $ sed -z 's/bcch = 62\nncc = 3\nbcc = 0/bcch = 60\nncc = 1\nbcc = 1/' site.toml >refused.toml
   $ ./lab run refused.toml /dev/null 2>errors
   site 4 colour
   [2]
   $ cat errors
-  refused.toml: cell 0 and outside 0 (cell 64) have the same bcch, ncc and bcc, which no two cells may have
+  refused.toml: cell 0 and outside 0 (cell 64) have the same bcch, ncc and bcc, but no two cells may
   $ sed -z 's/arfcn = 875/arfcn = 871/' site.toml >refused.toml
   $ ./lab run refused.toml /dev/null 2>errors
   site 4 carrier
   [2]
   $ cat errors
-  refused.toml: cell 1: arfcn 871 stands in two trx, where each has its own
+  refused.toml: cell 1: two trx have arfcn 871, but each needs its own
   $ sed -z 's/tch = \[2, 3]/tch = [3, 3]/' site.toml >refused.toml
   $ ./lab run refused.toml /dev/null 2>errors
   site 4 slot
   [2]
   $ cat errors
-  refused.toml: cell 0, trx 0: tch: 3 stands twice, where it may stand once
+  refused.toml: cell 0, trx 0: tch: 3 is listed twice
   $ sed -z 's/ba = \[60]/ba = [60, 60]/' site.toml >refused.toml
   $ ./lab run refused.toml /dev/null 2>errors
   site 4 neighbour
   [2]
   $ cat errors
-  refused.toml: cell 1: ba: 60 stands twice, where it may stand once
+  refused.toml: cell 1: ba: 60 is listed twice
   $ sed -z 's/tch = \[3]/tch = []/' site.toml >refused.toml
   $ ./lab run refused.toml /dev/null 2>errors
   site 5 1
   [2]
   $ cat errors
-  refused.toml: cell 1: no trx has a timeslot at tch, where at least one is wanted
+  refused.toml: cell 1: no trx has a timeslot in tch, but at least one is needed
   $ sed -z 's/\[handover]/[other]/' site.toml >refused.toml
   $ ./lab run refused.toml /dev/null 2>errors
   site 2 handover
@@ -151,7 +151,7 @@ stands in another's place each time.
   site 3 ba
   [2]
   $ cat errors
-  refused.toml: cell 1: ba: an array of 33 entries isn't an array of at most 32 carriers from 0 to 1023
+  refused.toml: cell 1: ba: it has 33 entries, but has to be an array of at most 32 carriers from 0 to 1023
   $ sed -z 's/trx = \[{ arfcn = 60, tch = \[2, 3] }]/trx = [{ arfcn = 60, tch = [2, 3] }, 7]/' site.toml >refused.toml
   $ ./lab run refused.toml /dev/null 2>errors
   site 3 trx
@@ -255,7 +255,7 @@ The site is looked at before the script.
   site 3 cell
   [2]
   $ cat errors
-  refused.toml: cell: an array of 0 entries isn't an array of 1 to 64 tables
+  refused.toml: cell: it has 0 entries, but has to be an array of 1 to 64 tables
   $ cat >refused.toml <<'END'
   > [handover]
   > window = 2

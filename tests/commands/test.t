@@ -29,7 +29,7 @@ What comes of the first line differs, and of the second.
   # came: event open 1 0/0/3 -> done
   # line 7
   # expected: no
-  # came: no line of a trace is so
+  # came: no line of a trace is like this
   [1]
 
 More comes than is expected.
@@ -59,11 +59,14 @@ For any lines none may stand, or some of which one is like the line behind them.
   $ printf 'undo 1\n#> in undo 1\n#> event undo 1 asked -> refused 1\n#> ..\nundo 2\n' >none.txt
   $ printf 'sim\ndouble 0 0 3\nopen 1 0 0 3\n#> ..\n#> in abis 0 0 0822010b080000\n#> event confirm 0/0/3 -> refused 8 0/0/3\nundo 2\n' >some.txt
   $ ./lab test examples/two_cells.toml none.txt some.txt
+  none.txt:5: this line has no effect: there is no call 2
   1..2
   ok 1 - none.txt
+  some.txt:7: this line has no effect: there is no call 2
   ok 2 - some.txt
   $ printf 'open 1 0 0 3\n#> ..\n#> event open 1 0/0/3 -> done\nundo 2\n' >script.txt
   $ ./lab test examples/two_cells.toml script.txt
+  script.txt:4: this line has no effect: there is no call 2
   1..1
   not ok 1 - script.txt
   # line 3
@@ -94,11 +97,11 @@ Lines that never come, a comment that has slipped, and one that expects two dots
   not ok 1 - script.txt
   # line 4
   # expected: b
-  # came: no line of a trace is so
+  # came: no line of a trace is like this
   # line 6 looks like an expectation, but isn't one
   # line 8
   # expected:  ..
-  # came: no line of a trace is so
+  # came: no line of a trace is like this
   [1]
 
 A line that doesn't come.
@@ -117,6 +120,7 @@ Less comes than is expected.
 
   $ printf 'undo 1\n#> in undo 1\n#> event undo 1 asked -> refused 1\n#> out a 1 CLEAR COMPLETE\nundo 2\n' >script.txt
   $ ./lab test examples/two_cells.toml script.txt
+  script.txt:5: this line has no effect: there is no call 2
   1..1
   not ok 1 - script.txt
   # line 4
@@ -132,7 +136,7 @@ Nothing comes before the first line.
   not ok 1 - script.txt
   # line 1
   # expected: in open 1 0 0 3
-  # came: no line stands before it
+  # came: no script line comes before it
   [1]
 
 A script without lines has its end.
@@ -166,7 +170,7 @@ Names and texts are printed with escapes, so that each stands in one line, and t
   not ok 1 - a\#\\b\nc\u{7f}
   # line 2
   # expected: \u{1b}[31m\t#\
-  # came: no line of a trace is so
+  # came: no line of a trace is like this
   [1]
 
 A line can't be read.
@@ -207,7 +211,7 @@ Scripts are tested one by one. One that is refused doesn't keep the others from 
   ok 4 - met.txt
   [2]
   $ cat errors
-  unread.txt:1: TN is 0 to 7, with /0 or /1 behind it for half rate, found 8
+  unread.txt:1: TN is 0 to 7, with /0 or /1 at the end for half rate, found 8
   no file: no such file
 
 With a peer each line of the trace has its mark. A peer's file that is no site is refused, and so is a site's that isn't
@@ -218,13 +222,13 @@ there.
   not ok 1 - met.txt
   # line 3
   # expected: in open 1 0 0 3
-  # came: no mark: 1: or 2: stands before it
+  # came: with two controllers it has to begin with 1: or 2:
   # line 4
   # expected: event open 1 0/0/3 -> done
-  # came: no mark: 1: or 2: stands before it
+  # came: with two controllers it has to begin with 1: or 2:
   $ sed 's/#> \(.*open\)/#> 1: \1/' met.txt >one.txt
   $ ./lab test examples/two_cells.toml one.txt --peer examples/one_cell.toml 2>&1 >/dev/null | head -n 1
-  one.txt:5: never met: no mark: 1: or 2: stands before it
+  one.txt:5: can't be met: with two controllers it has to begin with 1: or 2:
   $ ./lab test examples/two_cells.toml met.txt --peer met.txt 2>errors
   site 1
   [2]

@@ -9,7 +9,7 @@ both.
   no end
   [2]
   $ cat errors
-  cut.trace: no line end behind the last input: the trace is cut, or its run isn't over (--cut reads it all the same)
+  cut.trace: no line end follows the last input: the trace is cut off, or its run isn't over (--cut reads it anyway)
   $ ./lab rewind examples/two_cells.toml cut.trace 9 2>/dev/null
   no end
   [2]
@@ -132,6 +132,6 @@ What has no line of a trace is none: a script, a site, nothing.
   no trace
   [2]
   $ uniq errors
-  examples/handover_undone.txt: no line is one of a trace, as run prints it
-  examples/two_cells.toml: no line is one of a trace, as run prints it
-  /dev/null: no line is one of a trace, as run prints it
+  examples/handover_undone.txt: this isn't a trace, as run prints it
+  examples/two_cells.toml: this isn't a trace, as run prints it
+  /dev/null: this isn't a trace, as run prints it

@@ -6,39 +6,39 @@ The examples. Behind input 3 the attempt of call 1 was opened; where the mobile 
 came with input 6.
 
   $ ./lab test examples/two_cells.toml examples/one_call.txt examples/handover_undone.txt examples/handover_arrives.txt examples/handover_returns.txt examples/handover_reported.txt examples/station_stutters.txt --undo-everywhere
-  ok 1 - examples/handover_undone.txt: undo 1 behind input 3: same
-  ok 2 - examples/handover_arrives.txt: undo 1 behind input 3: same
-  ok 3 - examples/handover_arrives.txt: undo 1 behind input 4: same
-  ok 4 - examples/handover_arrives.txt: undo 1 behind input 5: same
-  ok 5 - examples/handover_returns.txt: undo 1 behind input 3: same
-  ok 6 - examples/handover_returns.txt: undo 1 behind input 4: same
-  ok 7 - examples/handover_reported.txt: undo 1 behind input 4: same
-  ok 8 - examples/handover_reported.txt: undo 1 behind input 5: same
-  ok 9 - examples/handover_reported.txt: undo 1 behind input 6: same
+  ok 1 - examples/handover_undone.txt: undo 1 after input 3: same
+  ok 2 - examples/handover_arrives.txt: undo 1 after input 3: same
+  ok 3 - examples/handover_arrives.txt: undo 1 after input 4: same
+  ok 4 - examples/handover_arrives.txt: undo 1 after input 5: same
+  ok 5 - examples/handover_returns.txt: undo 1 after input 3: same
+  ok 6 - examples/handover_returns.txt: undo 1 after input 4: same
+  ok 7 - examples/handover_reported.txt: undo 1 after input 4: same
+  ok 8 - examples/handover_reported.txt: undo 1 after input 5: same
+  ok 9 - examples/handover_reported.txt: undo 1 after input 6: same
   1..9
   # same 9, held 0, not settled 0, differ 0
 
 Two controllers: call 1 of the first is to leave, from input 3 on, and comes to the second as call 40000 with input 4.
 
   $ ./lab test examples/two_cells.toml examples/handover_between.txt --peer examples/one_cell.toml --undo-everywhere
-  ok 1 - examples/handover_between.txt: undo 1 behind input 3: same
-  ok 2 - examples/handover_between.txt: undo 1 behind input 4: same
-  ok 3 - examples/handover_between.txt: 2: undo 40000 behind input 4: same
-  ok 4 - examples/handover_between.txt: undo 1 behind input 5: same
-  ok 5 - examples/handover_between.txt: 2: undo 40000 behind input 5: same
-  ok 6 - examples/handover_between.txt: undo 1 behind input 6: same
-  ok 7 - examples/handover_between.txt: 2: undo 40000 behind input 6: same
-  ok 8 - examples/handover_between.txt: undo 1 behind input 7: same
-  ok 9 - examples/handover_between.txt: 2: undo 40000 behind input 7: same
-  ok 10 - examples/handover_between.txt: undo 1 behind input 8: same
+  ok 1 - examples/handover_between.txt: undo 1 after input 3: same
+  ok 2 - examples/handover_between.txt: undo 1 after input 4: same
+  ok 3 - examples/handover_between.txt: 2: undo 40000 after input 4: same
+  ok 4 - examples/handover_between.txt: undo 1 after input 5: same
+  ok 5 - examples/handover_between.txt: 2: undo 40000 after input 5: same
+  ok 6 - examples/handover_between.txt: undo 1 after input 6: same
+  ok 7 - examples/handover_between.txt: 2: undo 40000 after input 6: same
+  ok 8 - examples/handover_between.txt: undo 1 after input 7: same
+  ok 9 - examples/handover_between.txt: 2: undo 40000 after input 7: same
+  ok 10 - examples/handover_between.txt: undo 1 after input 8: same
   1..10
   # same 10, held 0, not settled 0, differ 0
 
 What two stations of Osmocom sent: they acknowledge the release of the target.
 
   $ ./lab test bridge/demo.toml examples/real_stations.txt --undo-everywhere
-  ok 1 - examples/real_stations.txt: undo 1 behind input 4: same
-  ok 2 - examples/real_stations.txt: undo 1 behind input 5: same
+  ok 1 - examples/real_stations.txt: undo 1 after input 4: same
+  ok 2 - examples/real_stations.txt: undo 1 after input 5: same
   1..2
   # same 2, held 0, not settled 0, differ 0
 
@@ -56,11 +56,11 @@ the attempt has it. And a script at whose end nobody has acknowledged the releas
   $ head -3 held.txt >awaited.txt
   $ head -4 held.txt >both.txt
   $ ./lab test examples/two_cells.toml held.txt awaited.txt both.txt --undo-everywhere
-  ok 1 - held.txt: undo 1 behind input 3: held open 2 1/1/3 -> refused 6 1/1/3, the reply to open 2 1/1/3 differs
-  ok 2 - held.txt: undo 1 behind input 4: held open 2 1/1/3 -> refused 6 1/1/3, the reply to open 2 1/1/3 differs
-  ok 3 - awaited.txt: undo 1 behind input 3: not settled, the book differs
-  ok 4 - both.txt: undo 1 behind input 3: not settled, held open 2 1/1/3 -> refused 6 1/1/3, the reply to open 2 1/1/3 differs
-  ok 5 - both.txt: undo 1 behind input 4: not settled, held open 2 1/1/3 -> refused 6 1/1/3, the reply to open 2 1/1/3 differs
+  ok 1 - held.txt: undo 1 after input 3: held open 2 1/1/3 -> refused 6 1/1/3, the reply to open 2 1/1/3 differs
+  ok 2 - held.txt: undo 1 after input 4: held open 2 1/1/3 -> refused 6 1/1/3, the reply to open 2 1/1/3 differs
+  ok 3 - awaited.txt: undo 1 after input 3: not settled, the book differs
+  ok 4 - both.txt: undo 1 after input 3: not settled, held open 2 1/1/3 -> refused 6 1/1/3, the reply to open 2 1/1/3 differs
+  ok 5 - both.txt: undo 1 after input 4: not settled, held open 2 1/1/3 -> refused 6 1/1/3, the reply to open 2 1/1/3 differs
   1..5
   # same 0, held 2, not settled 3, differ 0
 
@@ -73,12 +73,12 @@ Comments of what is expected are passed over, and a script that can't be read is
   # line 1 can't be read
   not ok 2 - nothing.txt
   # the file can't be read
-  ok 3 - examples/handover_undone.txt: undo 1 behind input 3: same
+  ok 3 - examples/handover_undone.txt: undo 1 after input 3: same
   1..3
   # same 1, held 0, not settled 0, differ 0
   [2]
   $ cat errors
-  bad.txt:1: TN is 0 to 7, with /0 or /1 behind it for half rate, found 8
+  bad.txt:1: TN is 0 to 7, with /0 or /1 at the end for half rate, found 8
   nothing.txt: no such file
   $ printf '' >empty.toml
   $ ./lab test empty.toml held.txt --undo-everywhere 2>/dev/null
@@ -92,9 +92,9 @@ third.
   $ ./lab run examples/two_cells.toml reports.txt | grep -c '^in'
   9
   $ ./lab test examples/two_cells.toml reports.txt --undo-everywhere
-  ok 1 - reports.txt: undo 1 behind input 5: same
-  ok 2 - reports.txt: undo 1 behind input 6: same
-  ok 3 - reports.txt: undo 1 behind input 7: same
+  ok 1 - reports.txt: undo 1 after input 5: same
+  ok 2 - reports.txt: undo 1 after input 6: same
+  ok 3 - reports.txt: undo 1 after input 7: same
   1..3
   # same 3, held 0, not settled 0, differ 0
 
@@ -102,8 +102,8 @@ All scripts of the tests: none differs. Where no release is acknowledged by a sc
 settled.
 
   $ ./lab test tests/two_cells/site.toml $(find tests/two_cells -name '*.txt' | sort) --undo-everywhere | tail -2
-  1..300
-  # same 152, held 0, not settled 148, differ 0
+  1..304
+  # same 156, held 0, not settled 148, differ 0
   $ ./lab test tests/two_controllers/site.toml $(find tests/two_controllers -name '*.txt' | sort) --peer tests/two_controllers/peer.toml --undo-everywhere | tail -2
   1..95
   # same 95, held 0, not settled 0, differ 0

@@ -10,8 +10,8 @@ script; behind '=>' stands what is said of it.
   >   done
   > }
   $ say <<'END'
-  > open 1 0 0 8 => TN is 0 to 7, with /0 or /1 behind it for half rate, found 8
-  > hold 0 0 3/2 => TN is 0 to 7, with /0 or /1 behind it for half rate, found 3/2
+  > open 1 0 0 8 => TN is 0 to 7, with /0 or /1 at the end for half rate, found 8
+  > hold 0 0 3/2 => TN is 0 to 7, with /0 or /1 at the end for half rate, found 3/2
   > open 65536 256 0 3 => CALL is 0 to 65535, found 65536
   > open 1 +1 0 3 => CELL is 0 to 255, found +1
   > hold 0 256 3 => TRX is 0 to 255, found 256
@@ -19,7 +19,7 @@ script; behind '=>' stands what is said of it.
   > a 1 0g => HEX is one octet or more, each in two hexadecimal digits, found 0g
   > expire 1 t7 => TIMER is T3103, T7 or T8, found t7
   > 2: mobile 0 0 3 stay => HABIT is arrive, return or vanish, found stay
-  > double 0 0 8 => TN is 0 to 7, with /0 or /1 behind it for half rate, found 8
+  > double 0 0 8 => TN is 0 to 7, with /0 or /1 at the end for half rate, found 8
   > cut 0 0 3 0 => N is 1 to 255, found 0
   > 2: cut 0 0 3 256 => N is 1 to 255, found 256
   > cut 0 0 3 +1 => N is 1 to 255, found +1
@@ -31,14 +31,14 @@ script; behind '=>' stands what is said of it.
   > mobile 0 => TRX is missing in mobile CELL TRX TN HABIT
   > double 0 0 => TN is missing in double CELL TRX TN
   > cut 0 0 3 => N is missing in cut CELL TRX TN N
-  > clear 1 1 2 => nothing stands behind clear CALL, found 1
-  > double 0 0 3 2 => nothing stands behind double CELL TRX TN, found 2
-  > cut 0 0 3 4 5 => nothing stands behind cut CELL TRX TN N, found 5
-  > abis 0 0 08 33 => nothing stands behind abis CELL TRX HEX, found 33
-  > sim  => nothing stands behind sim, found a blank
+  > clear 1 1 2 => nothing may follow clear CALL, found 1
+  > double 0 0 3 2 => nothing may follow double CELL TRX TN, found 2
+  > cut 0 0 3 4 5 => nothing may follow cut CELL TRX TN N, found 5
+  > abis 0 0 08 33 => nothing may follow abis CELL TRX HEX, found 33
+  > sim  => nothing may follow sim, found a blank
   > abis 0 0 CHANEL ACTIVATION ACK tn=3 frame=0 => HEX is one octet or more, each in two hexadecimal digits, or a message in words, found CHANEL ACTIVATION ACK
-  > a 1 clear command cause=9 => HEX is one octet or more, each in two hexadecimal digits, or a message in words, in capitals, found clear
-  > abis 0 0 CHANNEL ACTIVATION ACK tn=8 frame=0 => tn is 0 to 7, with /0 or /1 behind it for half rate, found "8"
+  > a 1 clear command cause=9 => HEX is one octet or more, each in two hexadecimal digits, or a message in words, with its name in capitals, found clear
+  > abis 0 0 CHANNEL ACTIVATION ACK tn=8 frame=0 => tn is 0 to 7, with /0 or /1 at the end for half rate, found "8"
   > abis 0 0 CHANNEL ACTIVATION ACK tn=3 => frame is missing
   > 2: a 1 CLEAR COMMAND cause=9 rr=0 => "rr=0" is no field of the message
   > a 1 CHANNEL ACTIVATION ACK tn=3 frame=0 => HEX is one octet or more, each in two hexadecimal digits, or a message in words, found CHANNEL ACTIVATION ACK
@@ -49,26 +49,31 @@ script; behind '=>' stands what is said of it.
   > report 1 full=30 times=2 => n is missing, as in n=1:40, or n=- for none
   > answer 1 => ANSWER is missing in answer CALL ANSWER
   > answer 1 acknowledged => ANSWER is ack, nack, detect, complete, failure or released, found acknowledged
-  > answer 1 ack 2 => nothing stands behind answer CALL ANSWER, found 2
+  > answer 1 ack 2 => nothing may follow answer CALL ANSWER, found 2
   > hold 0 0 3 ack => ANSWER is detection or complete, found ack
-  > hold 0 0 3 complete 1 => nothing stands behind hold CELL TRX TN ANSWER, found 1
+  > hold 0 0 3 complete 1 => nothing may follow hold CELL TRX TN ANSWER, found 1
   > mobile 1 stay => HABIT is arrive, return or vanish, found stay
   > mobile all return => CALL is 0 to 65535, found all
   > mobile 1 2 => TN is missing in mobile CELL TRX TN HABIT
-  > 2: # a comment => behind 2: stands open, seize, handover, undo, clear, expire, abis, a, report, answer, refuse, hold, let, mobile, double, cut or hangup, found #
-  > 2:  => behind 2: stands open, seize, handover, undo, clear, expire, abis, a, report, answer, refuse, hold, let, mobile, double, cut or hangup, found two blanks, or one at the end
-  > 2: sim 1 => sim is for both controllers, and stands without 2:
-  > \0357\0273\0277sim => a byte order mark stands before the first word
+  > restart => CELL is missing in restart CELL
+  > restart 256 => CELL is 0 to 255, found 256
+  > 2: restart 0 x => TRX is 0 to 255, found x
+  > restart 0  => TRX is 0 to 255, found two blanks, or one at the end
+  > restart 0 0 3 => nothing may follow restart CELL TRX, found 3
+  > 2: # a comment => 2: is followed by open, seize, handover, undo, clear, expire, abis, a, report, answer, refuse, hold, let, mobile, double, cut, restart or hangup, found #
+  > 2:  => 2: is followed by open, seize, handover, undo, clear, expire, abis, a, report, answer, refuse, hold, let, mobile, double, cut, restart or hangup, found two blanks, or one at the end
+  > 2: sim 1 => sim is for both controllers, and is written without 2:
+  > \0357\0273\0277sim => the line begins with a byte order mark
   > undo 0123456789012345678901234567890123456789012345678901234567890 => CALL is 0 to 65535, found 012345678901234567890123456789012345678901234567890123456789..
   > END
 
 Lines that begin with no word of theirs.
 
   $ say <<'END'
-  > opan 1 0 0 3 => a line begins with open, seize, handover, undo, clear, expire, abis, a, report, answer, sim, refuse, hold, let, mobile, double, cut or hangup, with 2: and a blank, or with #, found opan
-  >  open 1 0 0 3 => a line begins with open, seize, handover, undo, clear, expire, abis, a, report, answer, sim, refuse, hold, let, mobile, double, cut or hangup, with 2: and a blank, or with #, found a blank
-  > open\t1 0 0 3 => a line begins with open, seize, handover, undo, clear, expire, abis, a, report, answer, sim, refuse, hold, let, mobile, double, cut or hangup, with 2: and a blank, or with #, found open\t1
-  > 2:undo 1 => a line begins with open, seize, handover, undo, clear, expire, abis, a, report, answer, sim, refuse, hold, let, mobile, double, cut or hangup, with 2: and a blank, or with #, found 2:undo
+  > opan 1 0 0 3 => a line begins with open, seize, handover, undo, clear, expire, abis, a, report, answer, sim, refuse, hold, let, mobile, double, cut, restart or hangup, with 2: and a blank, or with #, found opan
+  >  open 1 0 0 3 => a line begins with open, seize, handover, undo, clear, expire, abis, a, report, answer, sim, refuse, hold, let, mobile, double, cut, restart or hangup, with 2: and a blank, or with #, found a blank
+  > open\t1 0 0 3 => a line begins with open, seize, handover, undo, clear, expire, abis, a, report, answer, sim, refuse, hold, let, mobile, double, cut, restart or hangup, with 2: and a blank, or with #, found open\t1
+  > 2:undo 1 => a line begins with open, seize, handover, undo, clear, expire, abis, a, report, answer, sim, refuse, hold, let, mobile, double, cut, restart or hangup, with 2: and a blank, or with #, found 2:undo
   > END
 
 Fields of a report, where there is one controller; behind '=>' stands how what is said of them ends.
@@ -81,16 +86,16 @@ Fields of a report, where there is one controller; behind '=>' stands how what i
   > done <<'END'
   > full=64 n=- => full is 0 to 63, found 64
   > full=30 sub=64 n=- => sub is 0 to 63, found 64
-  > full=30 n=-,1:40 => six at most, or -, found -,1:40
-  > full=30 n=1:64 => six at most, or -, found 1:64
-  > full=30 n=256:1 => six at most, or -, found 256:1
-  > full=30 n=1 => six at most, or -, found 1
-  > full=30 n= => six at most, or -, found nothing
-  > full=30 n=1:1, => six at most, or -, found 1:1,
-  > full=30 n=1:1,1:1,1:1,1:1,1:1,1:1,1:1 => six at most, or -, found 1:1,1:1,1:1,1:1,1:1,1:1,1:1
-  > full=30 full=30 n=- => full stands twice
-  > full=30 n=- n=- => n stands twice
-  > full=30 dtx dtx n=- => dtx stands twice
+  > full=30 n=-,1:40 => between any two, or -, found -,1:40
+  > full=30 n=1:64 => between any two, or -, found 1:64
+  > full=30 n=256:1 => between any two, or -, found 256:1
+  > full=30 n=1 => between any two, or -, found 1
+  > full=30 n= => between any two, or -, found nothing
+  > full=30 n=1:1, => between any two, or -, found 1:1,
+  > full=30 n=1:1,1:1,1:1,1:1,1:1,1:1,1:1 => between any two, or -, found 1:1,1:1,1:1,1:1,1:1,1:1,1:1
+  > full=30 full=30 n=- => full is given twice
+  > full=30 n=- n=- => n is given twice
+  > full=30 dtx dtx n=- => dtx is given twice
   > full=30 dtx=1 n=- => each once, found dtx=1
   > full=30 qfull=8 n=- => qfull is 0 to 7, found 8
   > full=30 qsub=8 n=- => qsub is 0 to 7, found 8
@@ -108,15 +113,15 @@ line `sim` before them.
 
   $ name() { printf "$1" >script.txt; shift; ./lab run examples/two_cells.toml script.txt "$@" 2>&1; }
   $ name 'open 1 0 0 3\r\nopen 2 0 0 8\r\n'
-  script.txt:2: TN is 0 to 7, with /0 or /1 behind it for half rate, found 8
+  script.txt:2: TN is 0 to 7, with /0 or /1 at the end for half rate, found 8
   line 2
   [2]
   $ name 'undo 1\nundu 1\n'
-  script.txt:2: a line begins with open, seize, handover, undo, clear, expire, abis, a, report, answer, sim, refuse, hold, let, mobile, double, cut or hangup, or with #, found undu
+  script.txt:2: a line begins with open, seize, handover, undo, clear, expire, abis, a, report, answer, sim, refuse, hold, let, mobile, double, cut, restart or hangup, or with #, found undu
   line 2
   [2]
   $ name 'undo 1\n2: undo 1\n'
-  script.txt:2: 2: is for a second controller, and there is none (--peer SITE)
+  script.txt:2: 2: is for a second controller, but there is none (--peer SITE)
   line 2
   [2]
   $ name 'hold 0 0 3\nsim\n'
@@ -129,6 +134,14 @@ line `sim` before them.
   [2]
   $ name 'hold 0 0 3 detection\nsim\n'
   script.txt:1: hold CELL TRX TN ANSWER needs a line sim before it
+  line 1
+  [2]
+  $ name 'restart 0\nsim\n'
+  script.txt:1: restart CELL needs a line sim before it
+  line 1
+  [2]
+  $ name '2: restart 0 1\n' --peer examples/one_cell.toml
+  script.txt:1: restart CELL TRX needs a line sim before it
   line 1
   [2]
   $ name '2: hangup 1\n' --peer examples/one_cell.toml
@@ -186,6 +199,9 @@ Lines that can be read, once the simulators are attached.
   > mobile 65535 vanish
   > let 0 0 3
   > mobile 0 0 3 arrive
+  > restart 0
+  > restart 000 01
+  > 2: restart 255
   > hangup 1
   > 2: open 1 0 0 3
   > 2: seize 1 0 half

@@ -20,6 +20,8 @@ who sends and who receives, here a station or the centre, and the controller.
   > 2: a 1234 00
   > END
   $ ./lab run examples/two_cells.toml script.txt --peer examples/one_cell.toml --pcap run.pcap >printed
+  script.txt:2: this line has no effect: the site has no cell 63
+  script.txt:3: this line has no effect: the second controller's site has no cell 255
   $ od -An -v -tx1 -w4096 run.pcap | tr -d ' \n' | grep -o '4006....0a......0a......' | sed 's/^4006....//'
   0a0100000a000001
   0a013f030a000001
@@ -104,7 +106,7 @@ No file is emptied when it is opened, whether the other can be opened or not. Th
   file no folder/a.svg
   [2]
   $ cat errors
-  no folder/a.svg: its folder isn't there, or takes no new file
+  no folder/a.svg: its folder doesn't exist, or takes no new file
   $ cmp opened.old opened.pcap; cmp opened.old opened.svg
   $ ./lab run examples/two_cells.toml kept.txt --pcap opened.pcap --chart / 2>errors
   file /
@@ -116,7 +118,7 @@ No file is emptied when it is opened, whether the other can be opened or not. Th
   file no folder/a.pcap
   [2]
   $ cat errors
-  no folder/a.pcap: its folder isn't there, or takes no new file
+  no folder/a.pcap: its folder doesn't exist, or takes no new file
   $ cmp opened.old opened.pcap; cmp opened.old opened.svg
   $ ./lab run examples/two_cells.toml kept.txt --pcap / --chart 'no folder/a.svg' 2>errors
   file /
@@ -174,17 +176,17 @@ Files that can't be made; files that are named twice, which is said before anyth
   file no folder/a.pcap
   [2]
   $ cat errors
-  no folder/a.pcap: its folder isn't there, or takes no new file
+  no folder/a.pcap: its folder doesn't exist, or takes no new file
   $ ./lab run /dev/null /dev/null --chart 'no folder/a.svg' 2>errors
   file no folder/a.svg
   [2]
   $ cat errors
-  no folder/a.svg: its folder isn't there, or takes no new file
+  no folder/a.svg: its folder doesn't exist, or takes no new file
   $ ./lab run /dev/null /dev/null --pcap "$(printf 'no\033/a')" 2>errors
   file no\u{1b}/a
   [2]
   $ cat errors
-  no\u{1b}/a: its folder isn't there, or takes no new file
+  no\u{1b}/a: its folder doesn't exist, or takes no new file
   $ ./lab run a b --pcap c --chart c 2>errors
   file c
   [2]
@@ -278,7 +280,7 @@ So is it where the audit differs, which is printed as well.
 
 So is one behind a chart of over 8 KiB.
 
-  $ for number in $(seq 300); do echo handover 1 99; done >script.txt
+  $ for number in $(seq 300); do printf 'handover 1 99\n#- idle\n'; done >script.txt
   $ ./lab run examples/two_cells.toml script.txt --pcap run.pcap --chart /dev/full >printed
   /dev/full: no space left* (glob)
   [2]

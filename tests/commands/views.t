@@ -139,6 +139,9 @@ Nothing comes of these inputs, of a fault does.
   > abis 0 0 0822010b08
   > END
   $ ./lab run examples/two_cells.toml script.txt --words
+  script.txt:4: this line has no effect: the site has no cell 99
+  script.txt:5: this line has no effect: the site has no cell 99
+  script.txt:7: this line has no effect: there is no call 2
   in open 1 0 0 3 # call 1
   event open 1 0/0/3 -> done # call 1
   out abis 0 0 0821010b0300060400010801 # call 1; CHANNEL ACTIVATION tn=3 activation=0 mode=00010801 reference=-
@@ -235,8 +238,9 @@ Whose a line is: a message about a channel that no call has; a handover that fin
   > undo 3
   > END
   $ ./lab run examples/two_cells.toml script.txt --words | grep -v -e '^out' -e '^in open' -e '^event open'
+  script.txt:7: this line has no effect: there is no call 3
   in abis 0 0 0833010b # no call; RF CHANNEL RELEASE ACK tn=3; ignored: this stage doesn't expect it
-  event released 0/0/3 -> refused 8 0/0/3 # no call; Unexpected: this channel is in use for no call, or doesn't wait for this message of its station
+  event released 0/0/3 -> refused 8 0/0/3 # no call; Unexpected: no call has this channel, or it doesn't wait for this message of its station
   in abis 0 0 0822010b080000 # call 1; CHANNEL ACTIVATION ACK tn=3 frame=0
   event confirm 0/0/3 -> owned 1 # call 1
   event look 1 -> record 0/0/3 on # call 1

@@ -82,7 +82,7 @@ other way round.
   outside 65 lac=2 ci=1 bcch=30 bsic=0/1
   outside 66 lac=2 ci=2 bcch=40 bsic=0/1
   warning: cell 0: ba: no other cell has the carrier 10
-  warning: cell 1 is a neighbour of cell 2, but cell 2 is none of cell 1
+  warning: cell 1 is a neighbour of cell 2, but cell 2 isn't one of cell 1
 
 A site in which a text stands in the place of another, and what is warned of then.
 
@@ -126,17 +126,17 @@ A site in which a text stands in the place of another, and what is warned of the
   $ ./lab check other.toml | grep '^warning'
   warning: cell 0: ba: no other cell has the carrier 60
   warning: cell 0 has no neighbours
-  warning: cell 0 is a neighbour of cell 1, but cell 1 is none of cell 0
+  warning: cell 0 is a neighbour of cell 1, but cell 1 isn't one of cell 0
   $ sed -z 's/\[62, 70, 871\]/[0, 1023]/' site.toml >other.toml
   $ ./lab check other.toml | grep '^warning'
   warning: cell 0: ba: no other cell has the carrier 0
   warning: cell 0: ba: no other cell has the carrier 1023
   warning: cell 0 has no neighbours
-  warning: cell 0 is a neighbour of cell 1, but cell 1 is none of cell 0
+  warning: cell 0 is a neighbour of cell 1, but cell 1 isn't one of cell 0
   $ sed -z 's/ba = \[60\]/ba = []/' site.toml >other.toml
   $ ./lab check other.toml | grep '^warning'
   warning: cell 0: ba: no other cell has the carrier 70
-  warning: cell 1 is a neighbour of cell 0, but cell 0 is none of cell 1
+  warning: cell 1 is a neighbour of cell 0, but cell 0 isn't one of cell 1
   warning: cell 1 has no neighbours
   $ sed -z 's/\[handover\]\n/colour = 1\n[handover]\nwindows = 2\n/' site.toml >other.toml
   $ ./lab check other.toml | grep '^warning'

@@ -2,7 +2,7 @@ Words that are no command line are refused in one line on standard error: it nam
 missing, and says what is allowed. Nothing stands on standard output.
 
   $ ./lab 2>&1 >>printed
-  *subcommand*run, live, test, record, rewind, audit, summary, storm, check, decode, encode, explain* (glob)
+  *subcommand*run, live, test, record, rewind, audit, summary, storm, check, cells, decode, encode, explain* (glob)
   [2]
   $ ./lab run 2>&1 >>printed
   *not provided: <SITE>*bsc_lab run * (glob)
@@ -14,10 +14,10 @@ missing, and says what is allowed. Nothing stands on standard output.
   *'c.txt'*--peer, --words, --state, --decisions, --pcap, --chart* (glob)
   [2]
   $ ./lab runn a.toml b.txt 2>&1 >>printed
-  *'runn'*run, live, test, record, rewind, audit, summary, storm, check, decode, encode, explain* (glob)
+  *'runn'*run, live, test, record, rewind, audit, summary, storm, check, cells, decode, encode, explain* (glob)
   [2]
   $ ./lab --verbose 2>&1 >>printed
-  *'--verbose'*run, live, test, record, rewind, audit, summary, storm, check, decode, encode, explain* (glob)
+  *'--verbose'*run, live, test, record, rewind, audit, summary, storm, check, cells, decode, encode, explain* (glob)
   [2]
   $ ./lab run a b --quiet 2>&1 >>printed
   *'--quiet'*--peer, --words, --state, --decisions, --pcap, --chart* (glob)
@@ -151,7 +151,7 @@ A rewind, and words with ends of lines, blanks and control characters, none of w
   $ ./lab "$(printf 'ru\n\nn')" 2>errors
   [2]
   $ cat errors
-  *'ru\\n\\nn'*run, live, test, record, rewind, audit, summary, storm, check, decode, encode, explain* (glob)
+  *'ru\\n\\nn'*run, live, test, record, rewind, audit, summary, storm, check, cells, decode, encode, explain* (glob)
   $ grep -c '[[:cntrl:]]' errors
   0
   [1]
