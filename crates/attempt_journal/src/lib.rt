@@ -107,7 +107,7 @@ impl Journal {
         self.pushed = next + 1;
     }
 
-    /// Takes the inverse out that was pushed last. `None` where there is none.
+    /// Takes the inverse out that was pushed last. `None` if there is none.
     pub fn pop(&mut self) -> Option<Inverse>
         ensures items { self.old ≡ self.new ++ option_to_list result }
         ensures empty { IfNone result (self.new ≡ []) }

@@ -1,5 +1,5 @@
-//! All undone attempts at handover of a trace, each taken out of it by itself: a line for each (`list`), of one controller or
-//! of each of two (`sides`). The others are told by the lines of their events (`ranges`).
+//! Takes each undone attempt at handover out of a trace, one at a time, and prints a line for each (`list`), of one
+//! controller or of each of two (`sides`). The other events are named by their lines (`ranges`).
 #![tactic(auto)]
 
 mod list;

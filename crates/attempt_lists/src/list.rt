@@ -165,8 +165,8 @@ fn list_side<A: Allocator + Copy, W: Write>(
     Ok(is_same)
 }
 
-/// What a controller's trace tells over its site; nothing where a line of it can't be read, or has another reply than the
-/// book gives, and then the number of the first such was printed.
+/// What a controller's trace tells over its site; nothing if a line of it can't be read, or has another reply than the book
+/// gives, and then the number of the first such was printed.
 fn told_side<A: Allocator + Copy, W: Write>(
     alloc: A,
     mark: Mark,
@@ -280,18 +280,18 @@ fn list_sides<A: Allocator + Copy, W: Write>(
     }
 }
 
-/// Takes each undone attempt out of a trace by itself, over a site, or over two of the trace of two controllers, all given as
-/// texts, and prints a line for each to `out`, in the order in which they opened, those of the second controller behind those
-/// of the first, each behind its controller's mark.
+/// Takes each undone attempt out of a trace, one at a time, over a site, or over two sites for a trace of two controllers,
+/// all given as texts. Prints a line for each to `out`, in the order in which they opened; those of the second controller
+/// come after those of the first, each after its controller's mark.
 ///
-/// A line has `line` and the number of the one in which the attempt opened, counted from 1; `call` and its call; its kind, and
-/// the stage in which it was taken back; and then, as [`rewind_run`](read_traces::rewound::rewind_run) says them, `others`
-/// with the lines of their events, `settled`, `held`, `choices`, and `same` or `differs: ` and what does first. The answer is
-/// `Done`, or `Differs` where one differs.
+/// A line has `line` and the line in which the attempt opened, counted from 1; `call` and its call; its kind, and the stage
+/// in which it was undone; and then, as in [`rewind_run`](read_traces::rewound::rewind_run), `others` with the lines of the
+/// other events, `settled`, `held`, `choices`, and `same` or `differs: ` and the first difference. The answer is `Differs`
+/// if one differs, else `Done`.
 ///
-/// What is refused there is refused here, by the same line, and nothing else is printed; so is a trace of two controllers
-/// where there is no second site, or where a line of one of them has no mark. `scratch` serves while the sites are read,
-/// `alloc` for all else. Once memory was refused (`NoMemory`), or `out` can't be written to (`Write`), nothing more is
+/// What `rewind_run` refuses is refused here, with the same line, and nothing else is printed. A trace of two controllers is
+/// also refused if there is no second site, or if a line of one of them has no mark. `scratch` serves while the sites are
+/// read, `alloc` for all else. Once memory was refused (`NoMemory`), or `out` can't be written to (`Write`), nothing more is
 /// printed.
 pub fn list_run<A: Allocator + Copy, W: Write>(
     alloc: A,

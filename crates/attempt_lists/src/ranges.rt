@@ -1,4 +1,4 @@
-//! The numbers of lines, as they stand in a line.
+//! The numbers of lines, as a list of ranges.
 use std::fmt;
 use trace_entries::entries::Entry;
 
@@ -58,7 +58,7 @@ fn line_at(entries: &[Entry], place: usize) -> usize {
 }
 
 impl Ranges<'_> {
-    /// Writes a range, behind a comma where it isn't the first.
+    /// Writes a range, behind a comma if it isn't the first.
     fn write<W: fmt::Write>(
         &self,
         f: &mut fmt::Formatter<W>,

@@ -14,7 +14,7 @@ fn lacks_mark(line: &str) -> bool {
     line.starts_with("in ") || line.starts_with("event ") || line.starts_with("none free ")
 }
 
-/// The first line of the trace of two controllers, counted from 1, that is of one of them, and has no mark.
+/// The first line of a trace of two controllers, counted from 1, that belongs to one of them but has no mark.
 pub fn first_unmarked(trace: &str) -> Option<usize> {
     let index = trace.split('\n').position(|line| lacks_mark(line))?;
     Some(index.saturating_add(1))
@@ -29,7 +29,7 @@ fn line_of(mark: Mark, line: &str) -> &str {
     }
 }
 
-/// The trace of the controller with this mark alone: each line where it was, and nothing in those of the other.
+/// The trace of only the controller with this mark: each of its lines is where it was, and the other's lines are empty.
 pub fn side_text<A: Allocator + Copy>(
     alloc: A,
     mark: Mark,

@@ -34,3 +34,11 @@ pub record IsAuditedRun (A : Type 0) (site : List ℕ) (peer : Option (List ℕ)
 -- of each controller all that remains comes to the same
 abbrev pub AreSame : Audits → Type 0
 AreSame audits = (audits.first.audit.same ≡ true) × IfSome audits.peer (λ (found : Found). found.audit.same ≡ true)
+
+-- of a controller what remains comes to something else
+abbrev pub AreApart : Audits → Type 0
+AreApart audits = AreSame audits → ⊥
+
+-- the texts are a site, a peer's where one is given, and a script for them, and this holds of the audits of its run
+abbrev pub OfItsAudits : (A : Type 0) → (Audits → Type 0) → List ℕ → Option (List ℕ) → List ℕ → Type 0
+OfItsAudits A P site peer script = (audits : Audits) × IsAuditedRun A site peer script audits × P audits

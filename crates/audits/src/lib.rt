@@ -1,6 +1,6 @@
-//! All settled attempts at handover, taken out together: of a trace that is read back (`traced`), and of what the controllers
-//! of a run were asked (`runs`), in which what is printed is counted (`lines`), so that a held event is named by its line
-//! (`noting`), also of one with views (`viewed`). What is printed of an audit: `shown`.
+//! Takes all settled attempts at handover out together: out of a trace that is read back (`traced`), and out of what the
+//! controllers of a run were asked (`runs`), also of a run with views (`viewed`). Printed lines are counted (`lines`), so
+//! that a held event is named by its line (`noting`). `shown` prints an audit.
 #![tactic(auto)]
 
 pub mod lines;

@@ -1,8 +1,8 @@
-//! Lines that are printed, counted.
+//! Counts the lines that are printed.
 use std::cell::Cell;
 use std::io::{self, Write};
 
-/// Passes octets on to `out` as they are, and counts the lines that end among them.
+/// Passes octets on to `out`, and counts the lines that end in them.
 #[derive(Drop)]
 pub struct CountedLines<'a, W: Write> {
     out: &'a mut W,

@@ -1,4 +1,4 @@
-//! Where the events of a run stand in what is printed of it.
+//! The line numbers of the events of a run in its trace.
 use crate::runs::AllBeside;
 use cell_table::SiteFault;
 use exchange::Outbound;
@@ -37,7 +37,7 @@ impl<A: Allocator + Copy> SideLines<A> {
     }
 }
 
-/// The lines of the events of each controller.
+/// The line numbers of the events of each controller.
 #[derive(Drop)]
 pub struct EventLines<A: Allocator = Global> {
     first: SideLines<A>,
@@ -85,25 +85,25 @@ impl<A: Allocator + Copy> EventLines<A> {
         AskedLines { events, none_free }
     }
 
-    /// The line in which the event of a controller stands at a place, counted from 0.
+    /// The line of a controller's event at a place, counted from 0.
     pub fn line_of(&self, side: Side, place: usize) -> Option<usize> {
         self.of(side).events.get(place).copied()
     }
 }
 
-/// Hands what comes of a run on to a listener that prints it, and notes in which lines the events stand.
+/// Passes what comes of a run on to a listener that prints it, and notes the lines of the events.
 #[derive(Drop)]
 pub struct Noting<'a, L, A: Allocator + Copy = Global> {
     listener: &'a mut L,
     /// How many lines were printed.
     printed: &'a Cell<usize>,
     lines: EventLines<A>,
-    /// What is told beside the audits of the run, once it ended.
+    /// What is printed with the audits of the run once it has ended.
     beside: Option<AllBeside<A>>,
 }
 
 impl<'a, L: Listener<A>, A: Allocator + Copy> Noting<'a, L, A> {
-    /// One that hands on to a listener, of which `printed` counts the lines.
+    /// Passes on to a listener. `printed` counts the lines that this listener prints.
     pub fn new(alloc: A, listener: &'a mut L, printed: &'a Cell<usize>) -> Noting<'a, L, A> {
         Noting {
             listener,
@@ -129,7 +129,7 @@ impl<'a, L: Listener<A>, A: Allocator + Copy> Noting<'a, L, A> {
         beside
     }
 
-    /// Where the events stand that were told so far.
+    /// The lines of the events so far.
     pub fn lines(&self) -> &EventLines<A> {
         &self.lines
     }

@@ -1,4 +1,4 @@
-//! All settled attempts, taken out of what the controllers of a run were asked.
+//! Takes all settled attempts out of what the controllers of a run were asked.
 ghost use Rattle.std.specs.Prelude.{◌≡◌, ◌≢◌, ◌↔◌, Ok, None, IsTrue, IfOk, IfSome, is_some};
 ghost use Rattle.lab_script.specs.Script.{first_unreadable};
 ghost use Rattle.lab_runs.specs.Course.{option_list};
@@ -21,15 +21,15 @@ use std::alloc::{AllocError, Allocator, Global};
 use std::io::{self, Write};
 use trace_text::trace::Mark;
 
-/// What the audit of a controller's history comes to.
+/// The result of the audit of a controller's history.
 #[derive(Clone, Copy, Debug, PartialEq, Eq)]
 pub struct Found {
     pub audit: Audit,
-    /// The number of the line, counted from 1, in which the first held event stands.
+    /// The line of the first held event, counted from 1.
     pub held: Option<usize>,
 }
 
-/// What the audits of a run's controllers found: of the first, and of its peer where there is one.
+/// The results of the audits of a run's controllers: of the first, and of its peer if there is one.
 #[derive(Clone, Copy, Debug, PartialEq, Eq)]
 pub struct Audits {
     pub first: Found,
@@ -52,7 +52,7 @@ fn found_of<A: Allocator + Copy>(
     Ok(Found { audit, held })
 }
 
-/// What the audit of the peer found, where there is one.
+/// What the audit of the peer found, if there is one.
 fn peer_found<A: Allocator + Copy>(
     peer: &Option<Controller<view::Noting<A>, A>>,
     lines: &EventLines<A>,
@@ -109,7 +109,7 @@ fn beside_in<A: Allocator + Copy>(
     beside_of(alloc, desk.opening(), asked, audit)
 }
 
-/// What is told of the audits of the controllers of a run beside what they found.
+/// What is printed with the audits of the controllers of a run, besides their results.
 #[derive(Drop)]
 pub struct AllBeside<A: Allocator = Global> {
     first: Beside<A>,
@@ -171,9 +171,9 @@ fn audit_played<A: Allocator + Copy, L: Listener<A>>(
     }
 }
 
-/// Runs a script over a site, or over two where a peer's is given, all given as texts, as
-/// [`run_for`](lab_runs::run::run_for) does, tells a listener what comes of it, and takes all settled attempts out of what
-/// each controller was asked. Nothing where nothing is run, and then the listener was told why.
+/// Runs a script over a site, or over two if a peer's is given, all as texts, as [`run_for`](lab_runs::run::run_for) does;
+/// tells a listener what comes of it; and takes all settled attempts out of what each controller was asked. Nothing if
+/// nothing is run; the listener was told why.
 ///
 /// `scratch` serves while the sites are read, `alloc` for all else. Once memory was refused (`NoMemory`), or the listener
 /// couldn't write (`Write`), it is told nothing more.
@@ -207,7 +207,7 @@ fn are_same(audits: &Audits) -> bool
     }
 }
 
-/// Prints four lines for each controller, behind its mark where there are two.
+/// Prints four lines for each controller, behind its mark if there are two.
 fn print_all<W: Write>(out: &mut W, audits: &Audits, beside: &AllBeside) -> io::Result<()> {
     let first = audits.first;
     match (audits.peer, &beside.peer) {
@@ -221,8 +221,8 @@ fn print_all<W: Write>(out: &mut W, audits: &Audits, beside: &AllBeside) -> io::
     }
 }
 
-/// Prints what the audits of the controllers of a run came to: four lines for each, behind its mark where there are two. The
-/// answer is `Done` where of each all that remains comes to the same, else `Differs`.
+/// Prints the results of the audits of a run's controllers: four lines for each, after its mark if there are two. The answer
+/// is `Done` if the rest stays the same for each controller, else `Differs`.
 pub fn print_audits<W: Write>(
     out: &mut W,
     audits: &Audits,

@@ -1,6 +1,6 @@
-//! What is printed of an audit.
+//! Prints an audit.
 //!
-//! No clause says what is printed: that is shown by tests.
+//! No clause says what is printed: tests show it.
 use radio_book::book::Book;
 use radio_book::event::{Event, Reply};
 use radio_desk::audit::Audit;
@@ -10,16 +10,16 @@ use std::alloc::{Allocator, Global};
 use std::io::{self, Write};
 use trace_text::trace::Mark;
 
-/// What is told of an audit beside what it found.
+/// What is printed with an audit, besides its result.
 #[derive(Drop)]
 pub struct Beside<A: Allocator = Global> {
-    /// The lines of the choices that would come out otherwise without the attempts.
+    /// The lines of the choices that would differ without the attempts.
     pub choices: Vec<usize, A>,
-    /// What differs without them, where anything does.
+    /// What differs without them, if anything does.
     pub difference: Vec<u8, A>,
 }
 
-/// What is told beside an audit of what a book was asked: its events, their replies, their lines, and the choices.
+/// What is printed with an audit of what a book was asked, by its events, their replies, their lines, and the choices.
 pub fn beside_of<A: Allocator + Copy>(
     alloc: A,
     book: &Book<A>,
@@ -54,9 +54,8 @@ pub struct Asked<'a> {
     pub choices: &'a [Choice],
 }
 
-/// Prints what an audit found, each line behind its controller's mark: how many attempts were taken out, the number of the
-/// line in which the first held entry stands, the lines of the choices that would come out otherwise, and whether what
-/// remains comes to the same, or what differs.
+/// Prints the result of an audit, each line after its controller's mark: how many attempts were taken out, the line of the
+/// first held entry, the lines of the choices that would differ, and whether the rest stays the same, or what differs.
 pub fn print_audit<A: Allocator, W: Write>(
     out: &mut W,
     mark: Mark,

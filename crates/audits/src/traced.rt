@@ -1,4 +1,4 @@
-//! All settled attempts, taken out of a trace.
+//! Takes all settled attempts out of a trace.
 ghost use Rattle.std.specs.Prelude.{◌≡◌, ◌≢◌, ◌++◌, ◌∷◌, [], Ok, Err, None, true, false, IfOk, OnOk};
 ghost use Rattle.cell_table.specs.SiteFile.{IsBlankFile};
 ghost use Rattle.radio_book.specs.State.{empty_book};
@@ -56,7 +56,7 @@ fn desk_after<A: Allocator + Copy>(
     Ok(desk)
 }
 
-/// What the audit of a desk comes to. Its contract also hands out that the history leads where the desk is.
+/// What the audit of a desk comes to. Its contract also says that the history leads where the desk is.
 fn audited<A: Allocator + Copy>(desk: &Desk<A>) -> Result<Audit, AllocError>
     ensures same { IfOk result (λ audit. audit.same ≡ true →
         OfTheHistory LeadsAlike desk.now.opening (events_in desk.now.history)) }
@@ -196,13 +196,14 @@ fn audit_over<A: Allocator + Copy, W: Write>(
     audit_entries(alloc, book, texts, out)
 }
 
-/// Takes all attempts that were undone and are settled out of a trace, as [`lab_run`](lab_runs::run::lab_run) prints it from
-/// the empty book on, together, and prints what that comes to, to `out`.
+/// Takes all attempts that were undone and are settled out of a trace, together, and prints the result to `out`. The trace
+/// is one that [`lab_run`](lab_runs::run::lab_run) prints, from the empty book on.
 ///
 /// The trace's lines that begin with `event ` are its events. Four lines are printed: `attempts` and how many were taken
-/// out, `held` and the number of the line of the first event that was refused for what one of them held or `-`, `choices`
-/// and the lines of those that would come out otherwise or `-`, and `same` where the events that remain lead to the same book
-/// and get the same replies, else `differs: ` and what does first. Then the answer is `Done` or `Differs`. Where no event is held it is `Done`: all settled attempts leave no trace together.
+/// out; `held` and the line of the first event that was refused because of one of them, or `-`; `choices` and the lines of
+/// those that would differ, or `-`; and `same` if the events that remain lead to the same book and get the same replies,
+/// else `differs: ` and the first difference. The answer is `Done` or `Differs` accordingly. If no event is held, it is
+/// `Done`: all settled attempts together leave no trace.
 ///
 /// The site, and lines of the trace, are refused as by [`rewind_run`](read_traces::rewound::rewind_run). `scratch` serves
 /// while the site is read, `alloc` for all else. Once memory was refused (`NoMemory`), or `out` can't be written to

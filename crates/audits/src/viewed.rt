@@ -1,4 +1,9 @@
-//! A run with views, and all settled attempts taken out at its end.
+//! A run with views and with an audit at its end.
+ghost use Rattle.std.specs.Prelude.{◌≡◌, Ok, IfOk, IfSome, IsSomeAnd};
+ghost use Rattle.std.specs.declared.alloc.Global.{Global};
+ghost use Rattle.lab_runs.specs.Sites.{texts_of};
+ghost use Rattle.audits.specs.Runs.{IsAuditedRun, AreSame, AreApart, OfItsAudits};
+
 use crate::lines::CountedLines;
 use crate::noting::Noting;
 use crate::runs::{AllBeside, Audits, audited_run, print_audits};
@@ -9,14 +14,17 @@ use std::alloc::Global;
 use std::cell::Cell;
 use std::fs::OpenFile;
 use std::io::Write;
+use std::rt::Files;
 use view_options::Views;
 
-/// A script over a site, or over two where a peer's is given, all as texts, and what is to be seen of its run.
+/// A script, its site, and its peer's site if one is given, all as texts, and the views of its run.
 #[derive(Clone, Copy, Debug, PartialEq, Eq)]
 pub struct AskedRun<'a> {
     pub site: &'a str,
     pub peer: Option<&'a str>,
     pub script: &'a str,
+    /// The title of its chart.
+    pub title: &'a str,
     pub views: &'a Views<'a>,
 }
 
@@ -33,11 +41,15 @@ fn audit_told<W: Write>(
     asked: AskedRun<'_>,
     viewer: &mut Viewer<'_, W>,
     printed: &Cell<usize>,
-) -> Result<Option<Told>, LabFault> {
+) -> Result<Option<Told>, LabFault>
+    ensures told { IfOk result (λ found. IfSome found (λ told.
+        IsAuditedRun Global asked.entry.site.now (texts_of asked.entry.peer) asked.entry.script.now told.0)) }
+{
     let AskedRun {
         site,
         peer,
         script,
+        title: _,
         views: _,
     } = asked;
     let mut noting = Noting::new(alloc, viewer, printed);
@@ -53,7 +65,9 @@ fn summed<T: Drop, W: Write>(
     alloc: Global,
     ended: Result<Option<T>, LabFault>,
     viewer: &mut Viewer<'_, W>,
-) -> Result<Option<T>, LabFault> {
+) -> Result<Option<T>, LabFault>
+    ensures { IfOk result (λ summed. ended ≡ Ok summed) }
+{
     let audits = ended?;
     viewer.print_summary(alloc)?;
     Ok(audits)
@@ -61,23 +75,27 @@ fn summed<T: Drop, W: Write>(
 
 /// Runs a script with a viewer that prints to a writer which counts lines, and writes what it gathered to the files of its
 /// views, where something was run.
-fn run_counted<F: Write + OpenFile + Drop, W: Write, E: Write>(
-    alloc: Global,
+fn run_counted<R: Files + AllocGlobal, F: Write + OpenFile + Drop, W: Write, E: Write>(
+    rt: &R,
     asked: AskedRun<'_>,
-    sheets: Sheets<'_, F>,
+    sheets: Sheets<F>,
     printed: &Cell<usize>,
     out: &mut W,
     errors: &mut E,
-) -> Result<Ended, LabFault> {
+) -> Result<Ended, LabFault>
+    ensures told { IfOk result (λ ended. IfSome ended.0 (λ told.
+        IsAuditedRun Global asked.entry.site.now (texts_of asked.entry.peer) asked.entry.script.now told.0)) }
+{
+    let alloc = rt.alloc();
     let mut viewer = Viewer::new(alloc, asked.views, asked.peer.is_some(), out)?;
-    viewer.note_script(asked.script)?;
+    viewer.note_script(asked.title, asked.script)?;
     let ended = summed(
         alloc,
         audit_told(alloc, asked, &mut viewer, printed),
         &mut viewer,
     );
     let written = if viewer.has_begun() {
-        sheets.finish(&viewer, errors)
+        sheets.finish(rt, &viewer, errors)
     } else {
         Ok(())
     };
@@ -85,34 +103,50 @@ fn run_counted<F: Write + OpenFile + Drop, W: Write, E: Write>(
 }
 
 /// Runs a script with a viewer that prints to any writer.
-fn run_viewed<F: Write + OpenFile + Drop, W: Write, E: Write>(
-    alloc: Global,
+fn run_viewed<R: Files + AllocGlobal, F: Write + OpenFile + Drop, W: Write, E: Write>(
+    rt: &R,
     asked: AskedRun<'_>,
-    sheets: Sheets<'_, F>,
+    sheets: Sheets<F>,
     out: &mut W,
     errors: &mut E,
-) -> Result<Ended, LabFault> {
+) -> Result<Ended, LabFault>
+    ensures told { IfOk result (λ ended. IfSome ended.0 (λ told.
+        IsAuditedRun Global asked.entry.site.now (texts_of asked.entry.peer) asked.entry.script.now told.0)) }
+{
     let printed = Cell::new(0);
     let mut counted = CountedLines::new(out, &printed);
-    run_counted(alloc, asked, sheets, &printed, &mut counted, errors)
+    run_counted(rt, asked, sheets, &printed, &mut counted, errors)
 }
 
-/// Runs a script with views, as [`run_for`](lab_runs::run::run_for) does, tells what comes of it, and prints behind the
-/// trace's end, and behind its summary where that is asked for, what the audits of its controllers come to
-/// ([`print_audits`]). The files of the views are written once the run ended, but not where nothing is run. The answer is
-/// `Refused` then, else `Done` or `Differs` by the audits.
-pub fn audit_viewed<F: Write + OpenFile + Drop, W: Write, E: Write>(
-    alloc: Global,
+/// Prints the audits of a run; the answer is by them, or `Refused` if nothing was run.
+fn print_told<W: Write>(told: Option<Told>, out: &mut W) -> Result<Status, LabFault>
+    ensures done { result ≡ Ok Status.Done → IsSomeAnd told (λ it. AreSame it.0) }
+    ensures differs { result ≡ Ok Status.Differs → IsSomeAnd told (λ it. AreApart it.0) }
+{
+    match told {
+        Some((audits, beside)) => print_audits(out, &audits, &beside),
+        None => Ok(Status::Refused),
+    }
+}
+
+/// Runs a script with views, as [`run_for`](lab_runs::run::run_for) does, and prints its trace. After the trace's end, and
+/// after the summary if one is asked for, it prints the audits of its controllers ([`print_audits`]). The files of the views
+/// are written when the run has ended, unless nothing was run. The answer is `Refused` if nothing was run, else `Done` or
+/// `Differs` by the audits.
+pub fn audit_viewed<R: Files + AllocGlobal, F: Write + OpenFile + Drop, W: Write, E: Write>(
+    rt: &R,
     asked: AskedRun<'_>,
-    sheets: Sheets<'_, F>,
+    sheets: Sheets<F>,
     out: &mut W,
     errors: &mut E,
-) -> Result<Status, LabFault> {
-    let (audits, written) = run_viewed(alloc, asked, sheets, out, errors)?;
-    let status = match audits {
-        Some((audits, beside)) => print_audits(out, &audits, &beside)?,
-        None => Status::Refused,
-    };
+) -> Result<Status, LabFault>
+    ensures done { result ≡ Ok Status.Done →
+        OfItsAudits Global AreSame asked.entry.site.now (texts_of asked.entry.peer) asked.entry.script.now }
+    ensures differs { result ≡ Ok Status.Differs →
+        OfItsAudits Global AreApart asked.entry.site.now (texts_of asked.entry.peer) asked.entry.script.now }
+{
+    let (told, written) = run_viewed(rt, asked, sheets, out, errors)?;
+    let status = print_told(told, out)?;
     written?;
     Ok(status)
 }

@@ -6,7 +6,7 @@
 //!   script with such comments;
 //! - `rewind` takes an undone attempt out of a trace and says whether the rest comes to the same, `audit` all of them;
 //! - `storm` moves many calls of a site at once, handled by workers on threads of their own, and says what came of it;
-//! - `check` prints the cells of a site, and what is surely meant otherwise in its file;
+//! - `check` prints the cells of a site, and what is surely meant otherwise in its file; `cells` prints a site of cells alike;
 //! - `decode` prints a message in words, with `--from` those of a file or of standard input, line by line; `encode` prints
 //!   the octets of a message in words;
 //! - `explain` says in words what a refusal, a cause or a fault is.

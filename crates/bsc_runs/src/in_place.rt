@@ -1,4 +1,4 @@
-//! What the controller is given in another's place.
+//! Inputs that the controller is given in another's place.
 ghost use Rattle.std.specs.Prelude.{◌≡◌, ◌<◌, IfOk};
 ghost use Rattle.rsl_messages.specs.Texts.{HasCanonical};
 ghost use Rattle.bsc_runs.specs.Owed.{from_station, refusal_on, release_on, failure_on, ending, in_place, next_for};
@@ -17,7 +17,7 @@ use std::alloc::{AllocError, Allocator, Global};
 pub enum Next<A: Allocator = Global> {
     /// It is owed nothing.
     Settled,
-    /// What it was owed about this channel asks for no input.
+    /// What it was owed about this channel needs no input.
     Passed(ChanId),
     /// This, about this channel.
     Given(ChanId, Inbound<A>),
@@ -123,7 +123,7 @@ fn input_in_place<A: Allocator + Copy>(
     }
 }
 
-/// What the controller is to be given next, where this is owed first.
+/// What the controller is to be given next, if this is the first that it is owed.
 pub fn next_for<A: Allocator + Copy>(
     alloc: A,
     book: &Book<A>,

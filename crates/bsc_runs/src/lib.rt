@@ -1,8 +1,8 @@
 //! A controller of a site, and the links of its stations beside it: turn by turn.
 //!
-//! [`Links`] has both. A turn ([`Links::give`]) is one input that the controller handles, and what follows of it at the links:
-//! timers of calls, failures that were kept, and each channel by its row (docs/LINKS.md). What the controller is owed then is
-//! given to it in another's place, one input after the other ([`Links::next_in_place`]).
+//! [`Links`] has both. In a turn ([`Links::give`]) the controller handles one input, and the links follow: timers of calls,
+//! failures that were kept, and each channel by its row (docs/LINKS.md). What the controller is owed after that is given to
+//! it in another's place, one input after the other ([`Links::next_in_place`]).
 #![tactic(auto)]
 
 mod in_place;

@@ -27,21 +27,21 @@ use radio_book::book::Book;
 use run_listeners::{Source, Turn};
 use std::alloc::{AllocError, Allocator, Global};
 
-/// What an input is about, as far as its channels ask.
+/// What an input is about, as far as channels need it.
 #[derive(Clone, Copy, Debug, PartialEq, Eq)]
 pub struct About {
     /// The channel that it is about.
     pub chan: Option<ChanId>,
-    /// How an attempt at handover ends that the controller takes back then.
+    /// How an attempt at handover ends if the controller undoes it in this turn.
     pub end: AttemptEnd,
 }
 
-/// Why it isn't said what follows of an input.
+/// Why the consequences of an input aren't returned.
 #[derive(Drop)]
 pub enum LinksFault<A: Allocator = Global> {
-    /// Why it isn't said what came of it.
+    /// Why what came of it isn't returned.
     Turn(TurnFault<A>),
-    /// Memory was refused, and it isn't said what is to be done at the links. This came of the input.
+    /// Memory was refused, so what is to be done at the links isn't returned. This came of the input.
     Links(Turn<A>),
 }
 
@@ -77,7 +77,7 @@ impl<A: Allocator + Copy> Links<A> {
         }
     }
 
-    /// The book. Its contract also hands out that the desk's history leads there.
+    /// The book. Its contract also says that the desk's history leads to it.
     pub fn book(&self) -> &Book<A>
         ensures book { result.now ≡ self.now.controller.0.desk.book }
         ensures legal { Leads self.now.controller.0.desk.opening self.now.controller.0.desk.history
@@ -136,9 +136,9 @@ impl<A: Allocator + Copy> Links<A> {
         }
     }
 
-    /// The controller handles an input, and its links follow: what came of it, and what is to be done at the links is appended.
-    /// Then all channels agree with the book about which the controller isn't owed anything, and timers of calls run just where
-    /// the book has them armed, if they did before.
+    /// The controller handles an input, and its links follow. Returns what came of it, and appends what is to be done at the
+    /// links. After this, all channels agree with the book, except those about which the controller is owed something; and
+    /// timers of calls run exactly if the book has them armed, if this was so before.
     pub fn give(
         &mut self,
         alloc: A,
@@ -179,8 +179,8 @@ impl<A: Allocator + Copy> Links<A> {
         }
     }
 
-    /// What the controller is to be given next in another's place; what it was owed about that channel it is owed no more. A bar is
-    /// opened for the number `fresh`, of which nobody has a call. `Settled` says that it is owed nothing.
+    /// What the controller is to be given next in another's place. What it was owed about this channel isn't owed any
+    /// longer. A bar is opened with the number `fresh`, which no call has. `Settled` says that it is owed nothing.
     pub fn next_in_place(&mut self, alloc: A, fresh: u16) -> Result<Next<A>, AllocError>
         ensures next { IfOk result (λ next. next ≡ next_for self.old.controller.0.desk.book fresh
             (first_owed self.old.machine.channels.items)) }

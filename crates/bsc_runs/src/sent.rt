@@ -1,4 +1,4 @@
-//! What a controller said, as far as its links ask.
+//! What a controller sent, as far as its links need it.
 ghost use Rattle.std.specs.Prelude.{◌≡◌, ◌/◌, ◌%◌};
 ghost use Rattle.bsc_runs.specs.Sent.{is_at, is_channel_release, chan_named, sent_away_by, sent_away_in, sent_away};
 
@@ -76,7 +76,7 @@ fn sent_away_in<A: Allocator>(messages: &[Outbound<A>]) -> Option<ChanId>
     }
 }
 
-/// The channel on which a controller said CHANNEL RELEASE.
+/// The channel on which a controller sent CHANNEL RELEASE.
 pub fn sent_away<A: Allocator>(answer: &Answer<A>) -> Option<ChanId>
     ensures { result ≡ sent_away answer.now }
 {

@@ -1,4 +1,4 @@
-//! What follows of a turn's steps at the links.
+//! The consequences of a turn's steps at the links.
 ghost use Rattle.std.specs.Prelude.{◌≡◌, ◌++◌, OnOk, option_to_list};
 ghost use Rattle.link_machine.specs.Laws.{AllAgree};
 ghost use Rattle.link_machine.specs.Machine.{all_moved, all_done};
@@ -20,7 +20,7 @@ pub struct Acts<A: Allocator = Global> {
 }
 
 impl<A: Allocator + Copy> Acts<A> {
-    /// Nothing is to be done.
+    /// Nothing to be done.
     pub fn new(alloc: A) -> Acts<A> {
         Acts {
             timers: Vec::new(alloc),
@@ -131,8 +131,8 @@ fn end_steps<A: Allocator + Copy>(
     }
 }
 
-/// What follows of a turn at the links: timers of calls follow the book, attempts that were taken back have ended so, and each
-/// channel does what its row says.
+/// Carries out the consequences of a turn at the links: timers of calls follow the book, attempts that were undone have
+/// ended in this way, and each channel does what its row says.
 pub fn follow_turn<A: Allocator + Copy>(
     machine: &mut Machine<A>,
     book: &Book<A>,

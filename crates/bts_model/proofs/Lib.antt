@@ -1,6 +1,6 @@
 -- the order of keys is total, and keys that tie are one
 mod KeyFacts
--- what a tree's entries, seen as a finite map, have at a key, and what one more entry makes of the map
+-- what a tree's entries, seen as a finite map, have at a key, and what one more entry, or fewer of them, make of the map
 mod MapFacts
 -- what is acknowledged where memory is refused at a release
 mod ReleaseFacts
@@ -14,3 +14,5 @@ mod DepartureFacts
 mod HoldFacts
 -- what is heard of a mobile that came leaves, or holds keep it
 mod ArrivalFacts
+-- what is sent of one timeslot more, and of the parts of a timeslot
+mod RestartFacts

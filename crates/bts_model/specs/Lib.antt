@@ -10,3 +10,4 @@ pub mod Stations
 pub mod Mobiles
 pub mod Steps
 pub mod Settings
+pub mod Restarts

@@ -21,7 +21,7 @@ fn cut<A: Allocator>(octets: &mut Vec<u8, A>, most: Option<u8>)
 }
 
 /// Appends octets that a station sends about a channel.
-fn send<A: Allocator + Copy>(
+pub fn send<A: Allocator + Copy>(
     alloc: A,
     outs: &mut Vec<StationOut<A>, A>,
     place: Place,

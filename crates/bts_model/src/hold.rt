@@ -4,9 +4,11 @@ ghost use Rattle.bts_model.specs.Keys.{is_same_place};
 ghost use Rattle.std.specs.List.{position};
 ghost use Rattle.bts_model.specs.Holds.{kind_of, is_kind, awaits, hold_of, kept_by, kept_of};
 ghost use Rattle.bts_model.specs.Departures.{keeping, kept_in};
+ghost use Rattle.bts_model.specs.Restarts.{restarts, unheld};
 
 use crate::answer::Answer;
 use crate::place::{Place, is_same_place};
+use crate::restart::Restart;
 use crate::setting::Held;
 use std::alloc::{AllocError, Allocator};
 
@@ -103,6 +105,25 @@ pub fn end_holds<A: Allocator>(holds: &mut Vec<Hold, A>, place: Place)
     ensures { holds.new.items ≡ filter (λ hold. not (is_same_place place hold.place)) holds.old.items }
 {
     holds.retain(|hold| !is_same_place(place, hold.place));
+}
+
+/// Ends the holds of the channels of a station that restarts.
+pub fn end_restarted<A: Allocator>(holds: &mut Vec<Hold, A>, restart: Restart)
+    ensures { holds.new.items ≡ unheld restart holds.old.items }
+{
+    holds.retain(|hold| !has_hold(restart, hold));
+}
+
+/// Whether a hold is one of a channel of a station that restarts.
+fn has_hold(restart: Restart, hold: &Hold) -> bool
+    ensures { result ≡ restarts restart hold.now.place.controller hold.now.place.channel.cell
+        hold.now.place.channel.trx }
+{
+    let Place {
+        controller,
+        channel,
+    } = hold.place;
+    restart.has(controller, channel.cell, channel.trx)
 }
 
 /// A hold, by its place among all, keeps an answer.

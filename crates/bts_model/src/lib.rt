@@ -7,6 +7,7 @@ mod departure;
 mod hold;
 mod mobile;
 mod place;
+mod restart;
 mod setting;
 mod slots;
 mod station;
@@ -14,6 +15,7 @@ mod trx;
 mod world;
 
 pub use answer::{Answer, StationOut, octets_of};
+pub use restart::Restart;
 pub use rsl_messages::Sub;
 pub use setting::{Act, Habit, Held, Setting};
 pub use world::World;

@@ -2,10 +2,12 @@
 ghost use Rattle.std.specs.Prelude.{◌≡◌, OnOk, OnErr, IsSome, None, unwrap_or};
 ghost use Rattle.std.specs.FinMap as map;
 ghost use Rattle.bts_model.specs.Keys.{key_of};
-ghost use Rattle.bts_model.specs.World.{idle, slot_in, slots_code, changed};
+ghost use Rattle.bts_model.specs.World.{idle, slot_in, slots_code, changed, is_active};
+ghost use Rattle.bts_model.specs.Restarts.{forgotten};
 ghost use Rattle.bts_model.specs.Impairments.{unimpaired, is_impaired};
 
 use crate::place::{Key, Place, key_of};
+use crate::restart::Restart;
 use crate::setting::Habit;
 use std::alloc::{AllocError, Allocator, Global};
 use std::collections::BTreeMap;
@@ -17,6 +19,16 @@ pub enum Activity {
     Inactive,
     /// It is active since a CHANNEL ACTIVATION, with the handover reference that this had, if any.
     Active(Option<u8>),
+}
+
+/// Whether a channel is active.
+pub fn is_active(activity: Activity) -> bool
+    ensures { result ≡ is_active activity }
+{
+    match activity {
+        Activity::Inactive => false,
+        Activity::Active(_) => true,
+    }
 }
 
 /// What befalls the next answer that leaves a station about a channel, which uses it up.
@@ -137,5 +149,13 @@ impl<A: Allocator + Copy> Slots<A> {
             Some(slot) => self.put(place, slot),
             None => Ok(()),
         }
+    }
+
+    /// Nothing is known any more of the channels of a station that restarts.
+    pub fn forget(&mut self, restart: Restart)
+        ensures { self.new ≡ forgotten restart self.old }
+    {
+        self.entries
+            .retain(|key, _| !restart.has(key.controller, key.cell, key.trx));
     }
 }

@@ -12,15 +12,17 @@ ghost use Rattle.bts_model.specs.Mobiles.{IsHeard, IsOnTimeslot};
 ghost use Rattle.bts_model.specs.Departures.{silent, all_sent, unkept};
 ghost use Rattle.bts_model.specs.Stations.{at_release};
 ghost use Rattle.bts_model.specs.Settings.{set, SetNeedsMemory, acted, ActNeedsMemory, doubled, cut};
+ghost use Rattle.bts_model.specs.Restarts.{restarted, HasActiveThat};
 ghost use Rattle.bts_model.specs.Steps.{Gives, Comes, Steps, IsSaid, NeedsMemory, StepNeedsMemory, at_channel, reacted, activated, responded, passed_on};
 
 use crate::answer::{Answer, Outs, StationOut};
 use crate::departure::{all_departed, changed_and_left};
-use crate::hold::{Hold, all_kept, end_holds, hold_of, keep, keep_in};
+use crate::hold::{Hold, all_kept, end_holds, end_restarted, hold_of, keep, keep_in};
 use crate::mobile::{Response, heard_in, response_to};
 use crate::place::{Place, place_in};
+use crate::restart::{Restart, failures};
 use crate::setting::{Act, Setting};
-use crate::slots::{Activity, Impairment, Slot, Slots};
+use crate::slots::{Impairment, Slot, Slots, is_active};
 use crate::station::{Reaction, at_activation, at_release};
 use crate::trx::{Trx, has_trx, trxs_of};
 use cell_table::Site;
@@ -76,7 +78,7 @@ impl<A: Allocator + Copy> World<A> {
     /// What comes of octets that a controller sends to a TRX of a cell: the messages that stations send then, in order.
     /// Octets that are no message, and messages about a channel that the world lacks, come to nothing.
     ///
-    /// Where memory is refused, the world is as it was.
+    /// If memory is refused, the world is as it was.
     pub fn step(&mut self, controller: usize, cell: u8, trx: u8, octets: &[u8]) -> Outs<A>
         ensures step { IfOk result (λ outs. Steps self.old controller cell trx octets.now
             self.new outs.items) }
@@ -92,7 +94,7 @@ impl<A: Allocator + Copy> World<A> {
 
     /// What comes of a setting: the messages that stations send then, in order. Only [`Act::Release`] has any.
     ///
-    /// Where memory is refused, the world is as it was.
+    /// If memory is refused, the world is as it was.
     pub fn set(&mut self, setting: Setting) -> Outs<A>
         ensures set { IfOk result (λ outs. Gives (set self.old setting) self.new outs.items) }
         ensures unchanged { OnErr result (self.new ≡ self.old) }
@@ -104,6 +106,23 @@ impl<A: Allocator + Copy> World<A> {
         } else {
             Ok(self.nothing())
         }
+    }
+
+    /// What comes of it that a station restarts: its channels are gone, and with them what was asked about them and what it
+    /// kept back. Of each channel that was active its controller hears that it failed, by TRX and timeslot. Mobiles say nothing.
+    ///
+    /// If memory is refused, the world is as it was.
+    pub fn restart(&mut self, restart: Restart) -> Outs<A>
+        ensures restart { IfOk result (λ outs. Gives (restarted self.old restart)
+            self.new outs.items) }
+        ensures unchanged { OnErr result (self.new ≡ self.old) }
+        ensures memory { OnErr result (HasActiveThat self.old.slots restart) }
+    {
+        let alloc = *self.holds.allocator();
+        let outs = failures(alloc, self.trxs.as_slice(), &self.slots, restart)?;
+        self.slots.forget(restart);
+        end_restarted(&mut self.holds, restart);
+        Ok(outs)
     }
 
     /// No messages.
@@ -423,16 +442,6 @@ fn cut(slot: Slot, octets: u8) -> Slot
             ..slot.impairment
         },
         ..slot
-    }
-}
-
-/// Whether a channel is active.
-fn is_active(activity: Activity) -> bool
-    ensures { result ≡ is_active activity }
-{
-    match activity {
-        Activity::Inactive => false,
-        Activity::Active(_) => true,
     }
 }
 

@@ -1,4 +1,4 @@
-//! What an office looks at when it closes.
+//! The checks of an office when it closes.
 ghost use Rattle.std.specs.Prelude.{◌≡◌, ◌≢◌, ◌↔◌, ◌++◌, ◌≤◌, [], length, IfOk, OnErr, IsTrue, MatchOption, MatchResult, vec_len, vec_capacity};
 ghost use Rattle.std.specs.List.{flat_map};
 ghost use Rattle.receipt_check.specs.Gathering.{Gathers, FirstWrong, StandsAt};

@@ -13,7 +13,7 @@ pub enum StartFault {
     NoMemory,
 }
 
-/// Why an input isn't given to a worker. Nothing was sent to any.
+/// Why an input isn't given to a worker. No worker was sent anything.
 #[derive(Clone, Copy, Debug, PartialEq, Eq, Error)]
 pub enum GiveFault {
     /// The octets are no message on Abis. Nothing was asked of the desk.

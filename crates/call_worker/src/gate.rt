@@ -1,4 +1,4 @@
-//! A seat at a shared desk that tells a gate how far calls have come.
+//! A seat at a shared desk that reports the progress of calls to a gate.
 ghost use Rattle.std.specs.Prelude.{◌≡◌, length};
 ghost use Rattle.call_worker.specs.Points.{point_at, point_of, told_of};
 
@@ -22,14 +22,14 @@ pub enum Point {
     Answered,
 }
 
-/// What workers pass on their way, each on its own thread, with no lock held. So a gate may hold one back while others go
-/// on.
+/// A gate, which each worker passes on its own thread, without holding a lock. So a gate may hold one worker back while
+/// others go on.
 pub trait Gate {
     /// The call (0 to 65535) has come to this point.
     fn pass(&self, call: u16, point: Point);
 }
 
-/// A seat at a shared desk, and the gate that it tells. Contracts see the receipts that it got.
+/// A seat at a shared desk, and the gate that it reports to. Contracts see its receipts.
 #[derive(Drop)]
 pub struct Gated<R: Wait + Drop, G: Gate + Drop, A: Allocator = Global> {
     shared: Shared<R, A>,

@@ -1,4 +1,4 @@
-//! What lies in a worker's inbox.
+//! The letters in a worker's inbox.
 ghost use Rattle.std.specs.Prelude.{◌≡◌, ◌∷◌, ◌++◌, [], true, MatchBool, MatchOption};
 ghost use Rattle.crossbeam_channel.specs.Claims.{view, IsSeatAt};
 ghost use Rattle.crossbeam_channel.specs.Ends.{sends_on, receives_on};
@@ -9,7 +9,7 @@ use std::alloc::{Allocator, Global};
 use std::sync::Wait;
 use worker_inbox::{Inbox, InboxPass, Post, post, take};
 
-/// What a worker finds in its inbox.
+/// A letter in a worker's inbox.
 #[derive(Drop)]
 pub enum Letter<A: Allocator = Global> {
     /// An input that is to be handled.

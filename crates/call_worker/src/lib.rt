@@ -1,7 +1,7 @@
 //! Workers that handle the inputs of one controller, each on a thread of its own, at one desk that they share.
 //!
-//! An [`Office`] starts them, gives each input to the worker of its call, and closes: then it says what each worker took,
-//! and checks that all receipts together are the desk's history.
+//! An [`Office`] starts them, gives each input to the worker of its call, and closes. When it closes, it says what each
+//! worker took, and checks that all receipts together are the desk's history.
 #![tactic(auto)]
 
 mod closing;

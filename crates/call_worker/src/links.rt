@@ -7,8 +7,8 @@ use exchange::Outbound;
 use octet_elements::Octets;
 use std::alloc::{AllocError, Allocator};
 
-/// What a worker sends its messages by, whatever memory they are in. Contracts see those that it passed on, in their
-/// order, and how many it refused: a count of 64 bits, which stays at its last value.
+/// The links by which a worker sends its messages, whatever memory they are in. Contracts see the messages that were passed
+/// on, in order, and how many were refused: a count of 64 bits, which stops at its highest value.
 pub trait Links {
     ghost passed: { Self → List Sent };
 

@@ -28,7 +28,7 @@ use std::mem;
 use std::sync::{Arc, Mutex, Wait};
 use std::thread::Threads;
 
-/// What an office leaves.
+/// What is left of an office when it has closed.
 #[derive(Drop)]
 pub struct Closed<L, A: Allocator = Global> {
     /// The desk. Its history leads from the book that it opened with to its book.
@@ -39,18 +39,18 @@ pub struct Closed<L, A: Allocator = Global> {
     pub workers: Vec<WorkerEnd<L, A>, A>,
 }
 
-/// Why an office doesn't close, and of what that isn't so. Its workers have ended.
+/// Why an office isn't closed, and what is left of it. Its workers have ended.
 #[derive(Drop)]
 pub struct Unclosed<L, A: Allocator = Global> {
-    /// What isn't so of the desk and of the receipts.
+    /// What is wrong with the desk or the receipts.
     pub fault: CloseFault,
     /// The desk, and what the office and its workers did there.
     pub left: Closed<L, A>,
 }
 
-/// Workers at one desk, each on a thread of its own, and the thread that owns the office: the only one that gives them
-/// inputs. Contracts see the book that the desk opened with, the receipts of the office's own seat, and of each worker its
-/// site, what it was given, and its links as they were at the start.
+/// Workers at one desk, each on a thread of its own. Only the thread that owns the office gives them inputs. Contracts see
+/// the book with which the desk opened, the receipts of the office's own seat, and for each worker its site, its inputs, and
+/// its links as they were at the start.
 #[derive(Drop)]
 pub struct Office<R: Threads + Wait + Drop, L: Links + Drop, A: Allocator = Global> {
     rt: R,
@@ -153,9 +153,9 @@ impl<R: Threads + Wait + Drop, L: Links + Drop, A: Allocator + Copy> Office<R, L
         }
     }
 
-    /// Gives an input to the worker that has the number of its call, modulo the number of workers. For a message on Abis
-    /// the office asks the desk whose the channel is that the message names. Where it is nobody's, and where the desk
-    /// doesn't know the office's own last receipt, the worker is that of the cell's number.
+    /// Gives an input to a worker: the one with the call's number modulo the number of workers. For a message on Abis the
+    /// office asks the desk for the call of the channel that the message names. If no call has the channel, or the desk
+    /// doesn't know the office's own last receipt, the worker is the one with the cell's number.
     ///
     /// It waits while the worker's inbox is full. After a fault no worker was given anything.
     pub fn give(&mut self, input: Inbound<A>) -> Result<(), GiveFault>
@@ -175,9 +175,8 @@ impl<R: Threads + Wait + Drop, L: Links + Drop, A: Allocator + Copy> Office<R, L
         posted.give(&self.rt, self.alloc, worker, input)
     }
 
-    /// Ends the workers, each by a last letter behind what it was given, and waits for them. Then it looks whether their
-    /// receipts and its own are the desk's history, and whether the desk opens with the book that the office was started
-    /// with.
+    /// Ends the workers, each by a last letter after its inputs, and waits for them. Then it checks that their receipts and
+    /// its own are the desk's history, and that the desk opens with the book with which the office was started.
     ///
     /// Each worker took a beginning of what it was given, in that order: all of it, unless it had no room to keep an input.
     /// What came of each input is as `Controller::handle` says, and its receipts are cut by the turns. Its links passed on

@@ -1,4 +1,4 @@
-//! One worker: it takes inputs from its inbox, handles each, and keeps what came of it.
+//! One worker, which takes inputs from its inbox, handles each, and keeps what came of it.
 ghost use Rattle.std.specs.Prelude.{◌≡◌, ◌∷◌, ◌++◌, [], List, true, false};
 ghost use Rattle.crossbeam_channel.specs.Claims.{view, IsSeatAt};
 ghost use Rattle.crossbeam_channel.specs.Ends.{receives_on};

@@ -79,7 +79,7 @@ impl<A: Allocator + Copy> Capture<A> {
         self.streams.get(&address).copied().unwrap_or(begun())
     }
 
-    /// Adds the packet of a message in its frame. Where memory is refused nothing changes.
+    /// Adds the packet of a message in its frame. If memory is refused nothing changes.
     #[tactic(auto, using(crate::proofs::FrameLens::packet_len))]
     fn add_frame(
         &mut self,

@@ -34,7 +34,7 @@ impl<A: Allocator + Copy> RunCapture<A> {
         })
     }
 
-    /// Adds a message. Where memory is refused nothing changes.
+    /// Adds a message. If memory is refused nothing changes.
     fn add(&mut self, mark: Mark, way: Way, wire: Wire, octets: &[u8]) -> Result<(), AllocError> {
         let path = Path {
             side: side_of(mark),
@@ -88,7 +88,7 @@ impl<A: Allocator + Copy> RunCapture<A> {
     }
 
     /// Adds the message of a line; a line without one adds nothing. A message with over 65,492 octets on Abis, or over 255
-    /// on A, is left out. Where memory is refused nothing is added.
+    /// on A, is left out. If memory is refused nothing is added.
     pub fn add_line(&mut self, mark: Mark, line: &TraceLine<'_, A>) -> Result<(), AllocError> {
         match line {
             TraceLine::Input(input) => {

@@ -1,4 +1,4 @@
-//! What has to hold of the cells of a site together.
+//! The rules for all cells of a site together.
 ghost use Rattle.std.specs.Prelude.{◌≡◌, ◌==◌, ◌≤◌, ◌++◌, length, map};
 ghost use Rattle.std.specs.List.{list_any, list_all, position};
 ghost use Rattle.cell_table.specs.Limits.{most_cells, most_outside};

@@ -30,7 +30,7 @@ pub enum Key {
 impl Key {
     ghost use Rattle.cell_table.specs.SiteFile.{key_name};
 
-    /// The key as it stands in the file.
+    /// The key as it is written in the file.
     pub fn name(self) -> &'static str
         ensures name { result.now ≡ key_name self }
     {
@@ -56,7 +56,7 @@ impl Key {
     }
 }
 
-/// The key as it stands in the file.
+/// The key as it is written in the file.
 impl fmt::Display for Key {
     fn fmt<W: fmt::Write>(&self, f: &mut fmt::Formatter<W>) -> fmt::Result {
         write!(f, "{}", self.name())
@@ -79,7 +79,7 @@ pub enum What {
 }
 
 impl What {
-    /// What stands twice, in words, with its keys.
+    /// What is there twice, in words, with its keys.
     fn in_words(self) -> &'static str {
         match self {
             What::Identity => "two cells have the same lac and ci",
@@ -114,8 +114,7 @@ pub enum SiteFault {
     /// A required key is absent.
     #[error("the key {0} is missing")]
     Missing(Key),
-    /// The value of a key is of another kind, or out of its range. An entry of `half` is so, too, where it doesn't stand in
-    /// the TRX's `tch`.
+    /// The value of a key is of another kind, or out of its range. So is an entry of `half` that isn't in the TRX's `tch`.
     #[error("the value of {0} is of another kind than allowed, or out of its range")]
     Range(Key),
     /// Something that may be said only once is said twice.

@@ -24,12 +24,12 @@ pub fn limits_are_those_defined()
     ensures power { MOST_POWER ≡ most_power }
 {}
 
-/// Of nine timeslots that are named one stands twice, so that no site has more than eight on a TRX.
+/// Among nine timeslots one is repeated. So no site has more than eight on a TRX.
 pub fn nine_timeslots_name_one_twice()
     ensures law { NineNameOneTwice }
 {}
 
-/// What `==` of two sites answers says whether they are equal, every key of them.
+/// `==` of two sites says whether they are equal in every key.
 pub fn same_sites_are_equal()
     ensures law { SameSitesAreEqual }
 {}
@@ -46,7 +46,7 @@ pub fn reports_name_one_cell()
     ensures law { ReportsNameOneCell }
 {}
 
-/// The position of a carrier in a neighbour list, which is sorted, is how many carriers of the BA list stand before it.
+/// The position of a carrier in the sorted neighbour list is the number of carriers of the BA list before it.
 pub fn positions_are_counted()
     ensures law { PositionsAreCounted }
 {}

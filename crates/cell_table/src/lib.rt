@@ -1,4 +1,4 @@
-//! The site of a controller: its cells, those of others beside it, and the channels that carry traffic.
+//! The site of a controller: its own cells, outside cells, and the traffic channels.
 #![tactic(auto)]
 
 mod checks;

@@ -1,5 +1,5 @@
-//! How much a site may have, and how great its numbers may be. Each limit stands here once, and once among the definitions
-//! (law [`limits_are_those_defined`](crate::laws::limits_are_those_defined)).
+//! The limits of a site: how much it may have, and how great its numbers may be. Each limit is here once, and once among the
+//! definitions (law [`limits_are_those_defined`](crate::laws::limits_are_those_defined)).
 
 /// The most own cells of a site.
 pub const MOST_CELLS: usize = 64;

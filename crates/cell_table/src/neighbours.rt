@@ -1,4 +1,4 @@
-//! The neighbour list of a cell, and the cells that a place in it and a colour name.
+//! The neighbour list of a cell, and the cells that a position in it and a colour code name.
 ghost use Rattle.std.specs.Prelude.{◌≡◌, count_by, option_map, slice_get};
 ghost use Rattle.std.specs.List.{position};
 ghost use Rattle.cell_table.specs.Searches.{stands_before, is_at, has_bsic, is_named, first_cell, first_named};

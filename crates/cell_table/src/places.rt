@@ -1,4 +1,4 @@
-//! Places of traffic channels: how many come before one, and which has a place.
+//! Places of traffic channels: how many come before a channel, and which channel is at a place.
 ghost use Rattle.std.specs.Prelude.{◌≡◌, ◌==◌, ◌+◌, ◌<◌, ◌≤◌, ℕ, All, length, sum_by};
 ghost use Rattle.std.specs.List.{list_any};
 ghost use Rattle.channel_fsm.specs.Masks.{has};

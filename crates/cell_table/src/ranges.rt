@@ -1,4 +1,4 @@
-//! What each key of a site file allows. The table stands here once, and once among the definitions.
+//! The values that each key of a site file allows. The table is here once, and once among the definitions.
 ghost use Rattle.std.specs.Prelude.{◌≡◌, ◌<◌};
 ghost use Rattle.cell_table.specs.Limits.{timeslots_of_trx};
 ghost use Rattle.cell_table.specs.Ranges.{allowed, arfcn_range, tch_range, up_to, from_one};
@@ -31,8 +31,8 @@ fn from_one(most: u16) -> Allowed
 }
 
 impl Key {
-    /// The numbers that the value of the key may be, or each entry where it is a list of numbers; of a key with tables,
-    /// how many there may be.
+    /// The numbers that the key's value may be, or each entry if it is a list of numbers. For a key with tables: how many
+    /// there may be.
     ///
     /// The first TRX of a cell may have less at `arfcn` and `tch`: [`arfcn_range`], [`tch_range`]. An entry of `half` also
     /// has to stand in the TRX's `tch`.
@@ -55,7 +55,7 @@ impl Key {
     }
 }
 
-/// The carriers that a TRX may have, the first of a cell with this BCCH carrier or another: the first has that carrier.
+/// The carriers that a TRX may have. The first TRX of a cell has the cell's BCCH carrier.
 pub fn arfcn_range(bcch: u16, first: bool) -> Allowed
     ensures value { result ≡ arfcn_range bcch first }
 {
@@ -69,8 +69,8 @@ pub fn arfcn_range(bcch: u16, first: bool) -> Allowed
     }
 }
 
-/// The timeslots that may carry traffic in a TRX, the first of a cell or another: timeslot 0 of the first carries the
-/// cell's broadcast channels (TS 45.002 clause 7).
+/// The timeslots of a TRX that may carry traffic. Timeslot 0 of a cell's first TRX carries the broadcast channels (TS 45.002
+/// clause 7).
 pub fn tch_range(first: bool) -> Allowed
     ensures value { result ≡ tch_range first }
     ensures most { result.most < timeslots_of_trx }

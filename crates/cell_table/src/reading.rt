@@ -1,4 +1,4 @@
-//! A site file as it is read: every key is checked once, and what it says is kept.
+//! Reads a site file: each key is checked once, and its value is kept.
 ghost use Rattle.std.specs.Prelude.{◌≡◌, ◌==◌, ◌<◌, ◌≤◌, Ok, IfOk, length, map, option_map};
 ghost use Rattle.std.specs.List.{list_all};
 ghost use Rattle.toml.specs.View.{view};

@@ -1,4 +1,4 @@
-//! The site, and what is looked up in it.
+//! The site, and how it is searched.
 ghost use Rattle.std.specs.Prelude.{◌≡◌, ◌≢◌, ◌↔◌, ℕ, IsTrue, Some, None, Ok, Err, true, IfOk, IfErr, length, option_map, slice_get};
 ghost use Rattle.std.specs.Result.{is_ok};
 ghost use Rattle.std.specs.List.{position};
@@ -115,7 +115,7 @@ impl<A: Allocator + Copy> Site<A> {
         Ok(site_of_tables(alloc, tables)?)
     }
 
-    /// The number of own cells, 1 to 64. Its contract also hands out what holds of every site.
+    /// The number of own cells, 1 to 64. Its contract also says what holds of every site.
     pub fn cells(&self) -> u8
         ensures value { result ≡ length self.now.cells }
         ensures limits { IsSite self.now }
@@ -159,43 +159,43 @@ impl<A: Allocator + Copy> Site<A> {
         identity_in(&self.tables, cell)
     }
 
-    /// `lac` of a cell, own or outside: its location area code; `None` where there is no such cell.
+    /// `lac` of a cell, own or outside: its location area code; `None` if there is no such cell.
     pub fn lac(&self, cell: u8) -> Option<u16>
         ensures value { result ≡ option_map (λ c. c.lac) (identity_at self.now cell) }
     {
         Some(self.identity(cell)?.lac)
     }
 
-    /// `ci` of a cell, own or outside: its cell identity; `None` where there is no such cell.
+    /// `ci` of a cell, own or outside: its cell identity; `None` if there is no such cell.
     pub fn ci(&self, cell: u8) -> Option<u16>
         ensures value { result ≡ option_map (λ c. c.ci) (identity_at self.now cell) }
     {
         Some(self.identity(cell)?.ci)
     }
 
-    /// `bcch` of a cell, own or outside: its BCCH carrier; `None` where there is no such cell.
+    /// `bcch` of a cell, own or outside: its BCCH carrier; `None` if there is no such cell.
     pub fn bcch(&self, cell: u8) -> Option<u16>
         ensures value { result ≡ option_map (λ c. c.bcch) (identity_at self.now cell) }
     {
         Some(self.identity(cell)?.bcch)
     }
 
-    /// `ncc` of a cell, own or outside: its network colour code; `None` where there is no such cell.
+    /// `ncc` of a cell, own or outside: its network colour code; `None` if there is no such cell.
     pub fn ncc(&self, cell: u8) -> Option<u8>
         ensures value { result ≡ option_map (λ c. c.ncc) (identity_at self.now cell) }
     {
         Some(self.identity(cell)?.ncc)
     }
 
-    /// `bcc` of a cell, own or outside: its base station colour code; `None` where there is no such cell.
+    /// `bcc` of a cell, own or outside: its base station colour code; `None` if there is no such cell.
     pub fn bcc(&self, cell: u8) -> Option<u8>
         ensures value { result ≡ option_map (λ c. c.bcc) (identity_at self.now cell) }
     {
         Some(self.identity(cell)?.bcc)
     }
 
-    /// `power` of an own cell: the power level that mobiles begin with (TS 45.005 clause 4.1.1); `None` where there is no
-    /// such cell.
+    /// `power` of an own cell: the power level that mobiles begin with (TS 45.005 clause 4.1.1); `None` if there is no such
+    /// cell.
     pub fn power(&self, cell: u8) -> Option<u8>
         ensures value { result ≡ option_map (λ c. c.power) (slice_get self.now.cells cell) }
     {
@@ -203,7 +203,7 @@ impl<A: Allocator + Copy> Site<A> {
     }
 
     /// `ba` of an own cell: its BA list, the BCCH carriers of its neighbours (TS 44.018 clause 10.5.2.22), in the site
-    /// file's order; `None` where there is no such cell.
+    /// file's order; `None` if there is no such cell.
     pub fn ba(&self, cell: u8) -> Option<&[u16]>
         ensures value { option_map (λ found. found.now) result ≡
             option_map (λ c. c.ba) (slice_get self.now.cells cell) }
@@ -212,22 +212,22 @@ impl<A: Allocator + Copy> Site<A> {
         Some(found.ba.as_slice())
     }
 
-    /// The number of TRX of an own cell, 1 to 4; `None` where there is no such cell.
+    /// The number of TRX of an own cell, 1 to 4; `None` if there is no such cell.
     pub fn trx(&self, cell: u8) -> Option<u8>
         ensures count { result ≡ option_map (λ c. length c.trx) (slice_get self.now.cells cell) }
     {
         Some(self.tables.cells.get(cell as usize)?.trx.len() as u8)
     }
 
-    /// `arfcn` of a TRX of an own cell: its carrier; `None` where there is no such cell or TRX.
+    /// `arfcn` of a TRX of an own cell: its carrier; `None` if there is no such cell or TRX.
     pub fn arfcn(&self, cell: u8, trx: u8) -> Option<u16>
         ensures value { result ≡ option_map (λ t. t.arfcn) (trx_at self.now cell trx) }
     {
         Some(trx_in(&self.tables, cell, trx)?.arfcn)
     }
 
-    /// `tch` of a TRX of an own cell: its traffic timeslots, in the site file's order; `None` where there is no such
-    /// cell or TRX.
+    /// `tch` of a TRX of an own cell: its traffic timeslots, in the site file's order; `None` if there is no such cell or
+    /// TRX.
     pub fn tch(&self, cell: u8, trx: u8) -> Option<&[u8]>
         ensures value { option_map (λ found. found.now) result ≡
             option_map (λ t. t.tch) (trx_at self.now cell trx) }
@@ -236,8 +236,8 @@ impl<A: Allocator + Copy> Site<A> {
         Some(found.tch.as_slice())
     }
 
-    /// `half` of a TRX of an own cell: those of its traffic timeslots that also carry half-rate channels (TS 45.002
-    /// clause 6.4.1), in the site file's order; `None` where there is no such cell or TRX.
+    /// `half` of a TRX of an own cell: those of its traffic timeslots that also carry half-rate channels (TS 45.002 clause
+    /// 6.4.1), in the site file's order; `None` if there is no such cell or TRX.
     pub fn half(&self, cell: u8, trx: u8) -> Option<&[u8]>
         ensures value { option_map (λ found. found.now) result ≡
             option_map (λ t. t.half) (trx_at self.now cell trx) }
@@ -258,16 +258,16 @@ impl<A: Allocator + Copy> Site<A> {
         }
     }
 
-    /// The cell, own or outside, with this location area code and cell identity, of which there is at most one; `None`
-    /// where there is none.
+    /// The cell, own or outside, with this location area code and cell identity. There is at most one; `None` if there is
+    /// none.
     pub fn cell_of(&self, lac: u16, ci: u16) -> Option<u8>
         ensures value { (cell : ℕ) → (result ≡ Some cell) ↔ IsCellOf self.now lac ci cell }
     {
         cell_with(&self.tables, lac, ci)
     }
 
-    /// The cell, own or outside, that a mobile in an own cell names by a position in its neighbour list and a base
-    /// station identity code; `None` where there is no such cell, position, or cell of that code.
+    /// The cell, own or outside, that a mobile in an own cell names by a position in its neighbour list and a base station
+    /// identity code; `None` if there is no such cell, position, or cell of that code.
     ///
     /// The neighbour list has the carriers of `ba` in ascending order, but carrier 0 last (TS 44.018 clause 10.5.2.20);
     /// positions are counted from 0. The cell's `bcch` is the carrier at the position, its `ncc` the code's high and
@@ -279,8 +279,8 @@ impl<A: Allocator + Copy> Site<A> {
         neighbour_named(&self.tables, cell, position, bsic)
     }
 
-    /// The place of a channel in the list of the site's traffic channels by cell, TRX and timeslot, and then the whole
-    /// timeslot, its lower and its upper half; counted from 0; `None` for any other channel.
+    /// The place of a channel, counted from 0, in the list of the site's traffic channels. They are listed by cell, TRX and
+    /// timeslot, and then the whole timeslot, its lower and its upper half. `None` for any other channel.
     pub fn index_of(&self, chan: ChanId) -> Option<usize>
         ensures value { result ≡ index_of self.now chan }
     {
@@ -290,8 +290,8 @@ impl<A: Allocator + Copy> Site<A> {
         Some(channels_before(self.tables.cells.as_slice(), chan))
     }
 
-    /// The channel that has a place in that list: the one whose place [`Site::index_of`] tells. `None` where the list has no
-    /// such place.
+    /// The channel at a place of this list, which [`Site::index_of`] answers for the channel. `None` if the list has no such
+    /// place.
     pub fn chan_at(&self, index: usize) -> Option<ChanId>
         ensures value { result ≡ slice_get (channels self.now) index }
         ensures inverse { (chan : ChanId) →
@@ -307,8 +307,8 @@ impl<A: Allocator + Copy> Site<A> {
         cell_sizes(self.tables.cells.as_slice())
     }
 
-    /// The timeslots of a TRX of an own cell that carry traffic with this part of them, as the bits of an octet: timeslot `n`,
-    /// 0 to 7, is the bit of value 2 to the power `n`. 0 where there is no such cell or TRX.
+    /// The timeslots of a TRX of an own cell that carry traffic with this part of them, as the bits of an octet: timeslot
+    /// `n`, 0 to 7, is the bit of value 2 to the power `n`. 0 if there is no such cell or TRX.
     pub fn traffic_mask(&self, cell: u8, trx: u8, sub: Sub) -> u8
         ensures timeslots { (tn : ℕ) → has result tn ≡
             is_traffic self.now (record { cell = cell; trx = trx; tn = tn; sub = sub }) }

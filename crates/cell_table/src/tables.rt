@@ -1,4 +1,4 @@
-//! What is kept of a site: tables of fixed capacity, which take no memory of their own.
+//! The contents of a site: tables of fixed capacity, which take no memory of their own.
 ghost use Rattle.std.specs.Prelude.{◌≡◌, ◌↔◌, IsTrue};
 ghost use Rattle.std.proofs.Common.{rules};
 ghost use Rattle.std.specs.Cmp.Rules.{comparing};

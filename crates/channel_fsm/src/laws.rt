@@ -3,12 +3,12 @@ ghost use Rattle.channel_fsm.specs.Keys.{SameChannelsAreEqual, OrderIsTotal, Tie
 ghost use Rattle.channel_fsm.specs.Slots.{NoneInWay, InWayConflicts};
 ghost use Rattle.channel_fsm.specs.Table.{NextIsTheTable};
 
-/// [`next`](crate::next) answers a state exactly where a row of the table leads to it.
+/// [`next`](crate::next) answers a state exactly if a row of the table leads to it.
 pub fn next_is_the_table()
     ensures law { NextIsTheTable }
 {}
 
-/// What `==` of two channels answers says whether they are equal: cell, TRX, timeslot and the part of it.
+/// `==` of two channels says whether they are equal: cell, TRX, timeslot and the part of it.
 pub fn same_channels_are_equal()
     ensures law { SameChannelsAreEqual }
 {}
@@ -19,8 +19,8 @@ pub fn channels_are_ordered()
     ensures exact { TiedChannelsAreOne }
 {}
 
-/// Nothing is in the way of a channel exactly where neither it nor one that conflicts with it is in use; and what is in the
-/// way is in use, and is the channel or conflicts with it.
+/// Nothing is in the way of a channel exactly if neither it nor a channel that conflicts with it is in use. A channel that
+/// is in the way is in use, and is the channel itself or conflicts with it.
 pub fn in_the_way_is_what_conflicts()
     ensures none { NoneInWay }
     ensures there { InWayConflicts }

@@ -1,5 +1,5 @@
-//! Channels of a cell: their names, the states that they take while a station is asked to activate and to release
-//! them, and answers (TS 48.058 clause 4), and sets of those of a TRX.
+//! Channels of a cell: their names; their states while a station is asked to activate and to release them, and answers (TS
+//! 48.058 clause 4); and sets of the timeslots of a TRX.
 #![tactic(auto)]
 
 ghost use Rattle.std.specs.Prelude.{◌≡◌, ◌≤◌, ◌↔◌, IsTrue};
@@ -25,12 +25,12 @@ pub struct ChanId {
     pub trx: u8,
     /// The timeslot, 0 to 7.
     pub tn: u8,
-    /// What it has of the timeslot.
+    /// Its part of the timeslot.
     pub sub: Sub,
 }
 
 impl ChanId {
-    /// The channel of the same timeslot that has this part of it.
+    /// The channel with this part of the same timeslot.
     pub fn part(self, sub: Sub) -> ChanId
         ensures part { result ≡ record self { sub = sub } }
     {
@@ -54,8 +54,8 @@ impl fmt::Display for ChanId {
     }
 }
 
-/// Whether two channels can't be used at once: they are different ones of one timeslot, and one of them is the whole
-/// timeslot. The two halves of a timeslot don't conflict, nor does a channel conflict with itself. Takes no memory.
+/// Whether two different channels can't be used at once: they are in one timeslot, and one of them is the whole timeslot.
+/// The two halves of a timeslot don't conflict, and a channel doesn't conflict with itself. Takes no memory.
 pub fn conflicts(a: ChanId, b: ChanId) -> bool
     ensures value { result ≡ conflict a b }
     ensures shared { IsTrue result ↔ Conflicts a b }
@@ -115,7 +115,7 @@ pub enum ChanEvent {
     Released,
 }
 
-/// The state of a channel after an event. `None` where the event is no step of a channel in this state:
+/// The state of a channel after an event. `None` if the event isn't possible in this state:
 ///
 /// | Event | From | To |
 /// |---|---|---|

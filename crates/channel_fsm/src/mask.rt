@@ -29,7 +29,7 @@ impl FreeMask {
         FreeMask { bits }
     }
 
-    /// Removes a timeslot, 0 to 7; one that isn't in the set stays out of it.
+    /// Removes a timeslot, 0 to 7, if it is in the set.
     pub fn take(&mut self, tn: u8)
         requires timeslot { tn ≤ 7 }
         ensures taken { has self.new tn ≡ false }
@@ -38,7 +38,7 @@ impl FreeMask {
         self.bits &= !(1 << tn);
     }
 
-    /// Adds a timeslot, 0 to 7; one that is in the set stays in it.
+    /// Adds a timeslot, 0 to 7, if it isn't in the set.
     pub fn give(&mut self, tn: u8)
         requires timeslot { tn ≤ 7 }
         ensures given { has self.new tn ≡ true }
@@ -55,7 +55,7 @@ impl FreeMask {
         (self.bits >> tn) & 1 == 1
     }
 
-    /// The lowest timeslot of the set, 0 to 7; `None` where the set is empty.
+    /// The lowest timeslot of the set, 0 to 7; `None` if the set is empty.
     pub fn lowest(&self) -> Option<u8>
         ensures range { IfSome result (λ tn. tn ≤ 7) }
         ensures there { IfSome result (λ tn. has self.now tn ≡ true) }

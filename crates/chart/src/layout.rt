@@ -10,8 +10,8 @@ use crate::{Bar, Chart, Lane, Row, Side};
 /// Between two rows.
 const ROW: u32 = 20;
 
-/// From the upper edge to the first row: there stand what bars are, and the names of the lanes.
-const HEAD: u32 = 64;
+/// From the upper edge to the first row: there stand the title, what bars are, and the names of the lanes.
+const HEAD: u32 = 84;
 
 /// From the last row to the lower edge: there stand the names of the lanes again.
 const FOOT: u32 = 36;
@@ -34,8 +34,9 @@ pub(crate) const NAME: u32 = 17;
 /// From a lane to the end of an arrow's text: the head of an arrow has room there.
 pub(crate) const ARROW_END: u32 = 14;
 
-/// So many letters have room between two lanes at least.
-const LEAST_ROOM: u32 = 20;
+/// So many letters have room between two lanes at least: with the room for the heads of arrows the names of two lanes fit
+/// beside one another.
+const LEAST_ROOM: u32 = 14;
 
 /// So many letters of a heading have room at most.
 const HEADING: u32 = 40;
@@ -103,7 +104,7 @@ fn texts_width(tracks: u32) -> u32 {
 
 /// The height of a row. Before each page of a column but the first the names of the lanes have a row of their own.
 pub(crate) fn row_y(row: u32) -> u32
-    ensures { result ≤ 15604 }
+    ensures { result ≤ 15624 }
 {
     let place = row % COLUMN;
     HEAD + (place + place / PAGE) * ROW
@@ -165,14 +166,14 @@ impl<'a> Layout<'a> {
 
     /// The height of the last row in a column.
     pub(crate) fn last_y(&self, column: u32) -> u32
-        ensures { result ≤ 15604 }
+        ensures { result ≤ 15624 }
     {
         row_y(self.rows_in(column).saturating_sub(1))
     }
 
     /// How high the chart is.
     pub(crate) fn height(&self) -> u32
-        ensures { result ≤ 15640 }
+        ensures { result ≤ 15660 }
     {
         self.last_y(0) + FOOT
     }
@@ -248,7 +249,7 @@ impl<'a> Layout<'a> {
             .saturating_add(self.lane_in_column(lane))
     }
 
-    /// From a lane to the next; to the bars, where there is none.
+    /// From a lane to the next; to the bars, if there is none.
     fn way(&self, lane: u32, next: u32) -> u32 {
         let way = self
             .lane_in_column(next)

@@ -1,10 +1,11 @@
 //! The SVG of a chart.
+use crate::escape::Escaped;
 use crate::layout::{
     ARROW_END, BAR_TEXT, COLUMN, Layout, MARGIN, NAME, NOTE_MARGIN, ONWARD_TEXT, PAGE, column_of,
     count, row_y,
 };
 use crate::room::{Fitted, letters_in};
-use crate::{Bar, Chart, Lane, Row, Shape, Side};
+use crate::{Bar, Chart, Frame, Lane, Row, Shape, Side};
 use std::fmt;
 
 /// How wide a bar is.
@@ -62,7 +63,8 @@ fn opposite(side: Side) -> Side {
 impl fmt::Display for Chart<'_> {
     fn fmt<W: fmt::Write>(&self, f: &mut fmt::Formatter<W>) -> fmt::Result {
         let layout = Layout::new(self);
-        print_head(f, &layout)?;
+        print_head(f, &layout, self.title)?;
+        print_title(f, &layout, self.title)?;
         print_legend(f, &layout, self)?;
         print_columns(f, &layout, self.lanes)?;
         print_bars(f, &layout, self.bars)?;
@@ -82,14 +84,35 @@ const DEFINITIONS: &str = "\
 <rect width=\"100%\" height=\"100%\" fill=\"#fff\"/>
 ";
 
-/// The size, and what stands before all shapes.
-fn print_head<W: fmt::Write>(f: &mut fmt::Formatter<W>, layout: &Layout<'_>) -> fmt::Result {
+/// The size, the title for whoever shows the picture, and what stands before all shapes.
+fn print_head<W: fmt::Write>(
+    f: &mut fmt::Formatter<W>,
+    layout: &Layout<'_>,
+    title: &str,
+) -> fmt::Result {
     let (width, height) = (layout.width(), layout.height());
     writeln!(
         f,
         "<svg xmlns=\"http://www.w3.org/2000/svg\" width=\"{width}\" height=\"{height}\" viewBox=\"0 0 {width} {height}\" font-family=\"monospace\" font-size=\"11\">"
     )?;
+    writeln!(f, "<title>{}</title>", Escaped(title))?;
     f.write_str(DEFINITIONS)
+}
+
+/// The title above all columns.
+fn print_title<W: fmt::Write>(
+    f: &mut fmt::Formatter<W>,
+    layout: &Layout<'_>,
+    title: &str,
+) -> fmt::Result {
+    let text = Fitted {
+        text: title,
+        room: letters_in(layout.width().saturating_sub(2 * MARGIN)),
+    };
+    writeln!(
+        f,
+        "<text x=\"{MARGIN}\" y=\"18\" text-anchor=\"start\" font-weight=\"bold\">{text}</text>"
+    )
 }
 
 /// A text at a place.
@@ -120,18 +143,27 @@ fn print_line<W: fmt::Write>(
     )
 }
 
-/// A box, whose upper left corner is at a place.
+/// How the frame of a box is drawn, in words of SVG.
+fn stroke(frame: Frame) -> &'static str {
+    match frame {
+        Frame::Thin => "",
+        Frame::Thick => " stroke-width=\"3\"",
+    }
+}
+
+/// A box of a width and a height, whose upper left corner is at a place.
 fn print_box<W: fmt::Write>(
     f: &mut fmt::Formatter<W>,
     place: (u32, u32),
-    width: u32,
-    height: u32,
+    size: (u32, u32),
     fill: &str,
+    frame: Frame,
 ) -> fmt::Result {
-    let (x, y) = place;
+    let ((x, y), (width, height)) = (place, size);
+    let stroke = stroke(frame);
     writeln!(
         f,
-        "<rect x=\"{x}\" y=\"{y}\" width=\"{width}\" height=\"{height}\" fill=\"{fill}\" stroke=\"#000\"/>"
+        "<rect x=\"{x}\" y=\"{y}\" width=\"{width}\" height=\"{height}\" fill=\"{fill}\" stroke=\"#000\"{stroke}/>"
     )
 }
 
@@ -146,8 +178,8 @@ fn print_sample<W: fmt::Write>(
     if layout.tracks(side) == 0 {
         return Ok(());
     }
-    print_box(f, (x, 9), BAR, 11, pattern(side))?;
-    print_text(f, x.saturating_add(18), 18, Anchor::Start, text)
+    print_box(f, (x, 29), (BAR, 11), pattern(side), Frame::Thin)?;
+    print_text(f, x.saturating_add(18), 38, Anchor::Start, text)
 }
 
 /// What the bars of each side are, beside one another.
@@ -275,6 +307,9 @@ fn print_bar<W: fmt::Write>(
         return Ok(());
     }
     print_parts(f, layout, bars, bar, last)?;
+    if bar.goes_on {
+        return Ok(());
+    }
     print_bar_text(f, layout, bar)
 }
 
@@ -297,7 +332,7 @@ fn print_parts<W: fmt::Write>(
     for column in begin..column_of(last).saturating_add(1) {
         print_part(f, layout, bar, last, column)?;
         let place = onward_place(bars, bar, column);
-        if column > begin && place <= last_place(last, column) {
+        if goes_on(bar, column) && place <= last_place(last, column) {
             print_onward_text(f, layout, bar, column, place)?;
         }
     }
@@ -317,7 +352,7 @@ fn print_part<W: fmt::Write>(
     let bottom = row_y(last.min(begin.saturating_add(COLUMN - 1))) + 6;
     let x = layout.bar_x(column, bar.side, bar.track);
     let height = bottom.saturating_sub(top);
-    print_box(f, (x, top), BAR, height, pattern(bar.side))
+    print_box(f, (x, top), (BAR, height), pattern(bar.side), Frame::Thin)
 }
 
 /// A text on this side of a bar, in a row at this height, and a line between the two.
@@ -370,9 +405,10 @@ fn ends_before(one: &Bar<'_>, other: &Bar<'_>) -> bool {
     one.first < other.first
 }
 
-/// Whether a bar that began in a column before goes on in this one.
+/// Whether a bar that began in a column before, or in an earlier picture, goes on in this one.
 fn goes_on(bar: &Bar<'_>, column: u32) -> bool {
-    column_of(bar.first) < column && column <= column_of(bar.last)
+    let begin = column_of(bar.first);
+    (begin < column || (bar.goes_on && begin == column)) && column <= column_of(bar.last)
 }
 
 /// The row of the column in which the text of a bar that goes on there stands: so many bars on its side go on there and end
@@ -430,19 +466,41 @@ fn print_row<W: fmt::Write>(
     print_heading(f, layout, column, y, row.heading)?;
     match row.shape {
         Shape::Nothing => Ok(()),
-        Shape::Note { lane, text } => print_note(f, layout, column, y, lane, text),
-        Shape::Arrow { from, to, text } => {
-            let (start, end) = (layout.lane_x(column, from), layout.lane_x(column, to));
-            if start == end {
-                print_note(f, layout, column, y, from, text)
-            } else {
-                print_arrow(f, start, end, y, text)
-            }
+        Shape::Note { lane, text, frame } => {
+            print_note(f, layout, (column, y), lane, text, frame)
+        }
+        Shape::Arrow { from, to, text } => print_message(f, layout, (column, y), (from, to), text),
+        Shape::Relayed {
+            from,
+            by,
+            to,
+            text,
+            onward,
+        } => {
+            print_message(f, layout, (column, y), (from, by), text)?;
+            print_message(f, layout, (column, y), (by, to), onward)
         }
     }
 }
 
-/// A heading, where there is one.
+/// A message from one lane to another, in a column at a height.
+fn print_message<W: fmt::Write>(
+    f: &mut fmt::Formatter<W>,
+    layout: &Layout<'_>,
+    place: (u32, u32),
+    way: (u32, u32),
+    text: &str,
+) -> fmt::Result {
+    let ((column, y), (from, to)) = (place, way);
+    let (start, end) = (layout.lane_x(column, from), layout.lane_x(column, to));
+    if start == end {
+        print_note(f, layout, place, from, text, Frame::Thin)
+    } else {
+        print_arrow(f, start, end, y, text)
+    }
+}
+
+/// A heading, if there is one.
 fn print_heading<W: fmt::Write>(
     f: &mut fmt::Formatter<W>,
     layout: &Layout<'_>,
@@ -482,15 +540,16 @@ fn print_arrow<W: fmt::Write>(
     )
 }
 
-/// A note in a box at a lane.
+/// A note in a box at a lane, in a column at a height.
 fn print_note<W: fmt::Write>(
     f: &mut fmt::Formatter<W>,
     layout: &Layout<'_>,
-    column: u32,
-    y: u32,
+    place: (u32, u32),
     lane: u32,
     text: &str,
+    frame: Frame,
 ) -> fmt::Result {
+    let (column, y) = place;
     let x = layout.lane_x(column, lane);
     let text = Fitted {
         text,
@@ -498,6 +557,6 @@ fn print_note<W: fmt::Write>(
     };
     let width = text.width().saturating_add(NOTE_MARGIN);
     let corner = (x.saturating_sub(width / 2), y.saturating_sub(12));
-    print_box(f, corner, width, 16, "#fff")?;
+    print_box(f, corner, (width, 16), "#fff", frame)?;
     print_text(f, x, y, Anchor::Middle, text)
 }

@@ -1,4 +1,4 @@
-//! The last reports of each call, kept beside a controller that keeps them, too.
+//! The last reports of each call, kept a second time beside the controller.
 ghost use Rattle.std.specs.Prelude.{◌≡◌, ◌≤◌, IfSome};
 ghost use Rattle.ho_procedure.specs.Plan.{call_dropped};
 

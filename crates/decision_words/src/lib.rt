@@ -1,7 +1,7 @@
-//! What was decided by each report of a call that has no attempt at handover, as lines behind it.
+//! Lines about the decision after each report of a call that has no attempt at handover.
 //!
-//! Which reports count for which call is told by what the controller asked, and what it tried by that, too. The last reports of
-//! each call are kept once more beside it, in windows as it has them.
+//! What the controller asked of its book shows for which call a report counts, and what was tried. The last reports of each
+//! call are kept here once more, in windows like the controller's.
 #![tactic(auto)]
 
 mod kept;

@@ -11,7 +11,7 @@ use std::alloc::{Allocator, Global};
 use std::io::Write;
 use trace_text::trace::{Mark, Step, TraceLine};
 
-/// What was decided by the reports of one controller's calls, or of two controllers'.
+/// The decisions after the reports of the calls of one controller, or of two.
 #[derive(Drop)]
 pub struct Decisions<A: Allocator + Copy = Global> {
     first: Kept<A>,
@@ -29,8 +29,8 @@ impl<A: Allocator + Copy> Decisions<A> {
         }
     }
 
-    /// Prints what was decided by the report in the next turn of the controller with this mark, whose site this is: where it
-    /// has one, of a call without an attempt, and of the call `only` where that is given. Each turn has to be told.
+    /// Prints the decision after the report in the next turn of the controller with this mark and this site, if the turn has
+    /// a report of a call without an attempt (and of the call `only`, if it is given). Each turn has to be told.
     pub fn print<W: Write>(
         &mut self,
         out: &mut W,

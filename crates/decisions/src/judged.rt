@@ -65,8 +65,8 @@ fn lack_of(sum: u32, asked: LeastSums) -> Lack
     }
 }
 
-/// A cell by the reports in a window, and by what is asked of its sum; `None` where mobiles in the serving cell don't name it. By
-/// what the window and the site ask ([`asked_of`]), a cell that isn't the serving one, and whose sum lacks nothing, is a
+/// A cell by the reports in a window, and by what is asked of its sum; `None` if mobiles in the serving cell don't name it.
+/// By what the window and the site ask ([`asked_of`]), a cell that isn't the serving one, and whose sum lacks nothing, is a
 /// candidate once the window is full ([`candidates`](ho_candidates::candidates)), and no other is.
 pub fn judge<W: Allocator, S: Allocator + Copy>(
     window: &Window<W>,

@@ -17,7 +17,7 @@ use std::io::{self, BufRead, Write};
 /// What is asked of lines.
 #[derive(Clone, Copy, Debug, PartialEq, Eq)]
 pub struct Asked {
-    /// The link of all lines; where there is none, each line begins with the name of its own.
+    /// The link of all lines; if there is none, each line begins with the name of its own.
     pub link: Option<LinkName>,
     /// How much is said of each message.
     pub detail: Detail,
@@ -145,7 +145,7 @@ fn answer_text<A: Allocator + Copy, W: Write>(
     }
 }
 
-/// Ends an answer, with the line's note where there is one.
+/// Ends an answer, with the line's note if there is one.
 fn end_answer<W: Write>(note: Option<&[u8]>, out: &mut W) -> io::Result<()> {
     if let Some(note) = note {
         write!(out, " #")?;

@@ -20,7 +20,7 @@ fn octet_of(high: u8, low: u8) -> Option<[u8; 1]>
 }
 
 /// The octets that a text writes: two hexadecimal digits each, in either case; blanks, tabs and colons may stand before,
-/// between and behind them. `None` where the text is another.
+/// between and behind them. `None` if the text is another.
 pub fn read_octets<A: Allocator>(alloc: A, text: &[u8]) -> Result<Option<Vec<u8, A>>, AllocError>
     ensures octets { IfOk result (λ found.
         option_map (λ octets. octets.items) found ≡ said.octets_of text.now) }

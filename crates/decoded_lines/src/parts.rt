@@ -18,7 +18,7 @@ fn note_place(line: &[u8]) -> Option<usize>
     line.iter().position(|octet| *octet == b'#')
 }
 
-/// What stands in a line before its first `#`, and the note behind that, where there is one.
+/// What stands in a line before its first `#`, and the note behind that, if there is one.
 pub fn text_and_note(line: &[u8]) -> (&[u8], Option<&[u8]>)
     ensures text { result.0.now ≡ said.text_of line.now }
     ensures note { option_map (λ note. note.now) result.1 ≡ said.note_of line.now }
@@ -56,8 +56,8 @@ pub fn is_blank(text: &[u8]) -> bool
     text.iter().all(|octet| *octet == b' ' || *octet == b'\t')
 }
 
-/// What stands in a line before its note, and the note, where there is one: both without the carriage return that may end
-/// the line. `None` for a line that says nothing: it is blank, or blank up to its note.
+/// What stands in a line before its note, and the note, if there is one: both without the carriage return that may end the
+/// line. `None` for a line that says nothing: it is blank, or blank up to its note.
 pub fn said_in(line: &[u8]) -> Option<(&[u8], Option<&[u8]>)>
     ensures blank { is_none result ≡ said.is_blank line.now }
     ensures text { IfSome result (λ parts. parts.0.now ≡ said.text_in line.now) }

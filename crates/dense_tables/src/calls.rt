@@ -102,7 +102,7 @@ impl<E: Entry, A: Allocator> CallSlots<E, A> {
         self.count
     }
 
-    /// What is kept of a call; `None` where it isn't there.
+    /// What is kept of a call; `None` if it isn't there.
     pub fn get(&self, call: u16) -> Option<&E>
         ensures value { option_copied result ≡ map.get self.now call }
     {

@@ -107,7 +107,7 @@ impl<A: Allocator> ChannelStates<A> {
         self.used
     }
 
-    /// The state of a channel; `None` where it isn't in use.
+    /// The state of a channel; `None` if it isn't in use.
     pub fn get(&self, x: ChanId) -> Option<ChanState>
         ensures value { result ≡ map.get self.now.states x }
     {

@@ -82,7 +82,7 @@ impl<A: Allocator> ReferenceRows<A> {
         self.used
     }
 
-    /// The call of a reference; `None` where it isn't in use.
+    /// The call of a reference; `None` if it isn't in use.
     pub fn get(&self, reference: Reference) -> Option<u16>
         ensures value { result ≡ map.get self.now.users reference }
     {

@@ -514,7 +514,7 @@ fn says_activation(fields: &str) -> bool
         && REFERENCE.optional_octet(fields).is_ok()
 }
 
-/// Whether so many octets of uplink measurements and, where there is one, of a report have room in a MEASUREMENT RESULT.
+/// Whether so many octets of uplink measurements and, if there is one, of a report have room in a MEASUREMENT RESULT.
 fn measured_fit(uplink: usize, report: Option<usize>) -> bool
     ensures { result ≡ said.measured_fit uplink report }
 {

@@ -103,7 +103,7 @@ fn neighbours_fault<'a>(text: &'a str) -> Option<MessageFault<'a>> {
     Some(MessageFault::Neighbours { count, found })
 }
 
-/// The first thing that is wrong with a text that is to say the layer 3 of a message; nothing where it says one.
+/// The first thing that is wrong with a text that is to say the layer 3 of a message; nothing if it says one.
 fn layer3_fault(text: &str) -> Option<MessageFault<'_>> {
     match short_fault(RR_FORMS, text) {
         Some(MessageFault::Name(name)) => Some(MessageFault::Layer3(name)),
@@ -112,7 +112,7 @@ fn layer3_fault(text: &str) -> Option<MessageFault<'_>> {
     }
 }
 
-/// The first thing that is wrong with a text in front of a layer 3; nothing where it may stand there.
+/// The first thing that is wrong with a text in front of a layer 3; nothing if it may stand there.
 fn front_fault(text: &str) -> Option<MessageFault<'_>> {
     match short_fault(FRONT_FORMS, text) {
         Some(MessageFault::Name(name)) => Some(MessageFault::NoLayer3(name)),
@@ -128,7 +128,7 @@ fn parts_fault(text: &str) -> Option<MessageFault<'_>> {
     }
 }
 
-/// The first thing that is wrong with a text that is to say a message on Abis; nothing where it says one.
+/// The first thing that is wrong with a text that is to say a message on Abis; nothing if it says one.
 pub fn abis_fault(text: &str) -> Option<MessageFault<'_>> {
     match parts_fault(text) {
         Some(fault) => Some(fault),

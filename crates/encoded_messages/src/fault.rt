@@ -21,10 +21,10 @@ pub enum MessageFault<'a> {
     #[error(transparent)]
     Field(FieldFault<'a>),
     // There are not as many neighbours as the count says.
-    #[error("count is {count} (7 says that there are none), and n stands {found} times")]
+    #[error("count is {count}, but n is given {found} times (none with count 7)")]
     Neighbours { count: u8, found: usize },
     // Each field is in its range, and the message has no canonical text.
-    #[error("the message can't be written: it, or a list of octets in it, is too long")]
+    #[error("the message, or a list of octets in it, is too long to be written")]
     TooLong,
     // Memory was refused.
     #[error("memory was refused")]

@@ -47,7 +47,7 @@ impl fmt::Display for Allowed {
             Allowed::Number(most) => write!(f, "0 to {most}"),
             Allowed::Cause => write!(f, "0 to 255"),
             Allowed::OptionalOctet => write!(f, "0 to 255, or -"),
-            Allowed::TrafficChannel => write!(f, "0 to 7, with /0 or /1 behind it for half rate"),
+            Allowed::TrafficChannel => write!(f, "0 to 7, with /0 or /1 at the end for half rate"),
             Allowed::Flag => write!(f, "0 or 1"),
             Allowed::Octets(least) => write!(f, "{}", AtLeast(*least)),
             Allowed::OptionalOctets(least) => write!(f, "{}, or -", AtLeast(*least)),
@@ -97,7 +97,7 @@ pub enum FieldFault<'a> {
     #[error("{0} is missing")]
     Missing(&'static str),
     // A field that stands twice.
-    #[error("{0} stands twice")]
+    #[error("{0} is given twice")]
     Twice(&'static str),
     // A field whose value is another than it may be.
     #[error("{key} is {allowed}, found {}", Shown(.value))]

@@ -128,7 +128,7 @@ impl FieldForm<'static> {
         }
     }
 
-    /// How many octets this field has; nothing where it isn't as it may be. Takes no memory.
+    /// How many octets this field has; nothing if it isn't as it may be. Takes no memory.
     #[tactic(auto, unfolding(crate::specs::Fields::octets_at))]
     pub(crate) fn octets_len(self, fields: &str) -> Option<usize>
         requires { form.IsOctets self.1 }
@@ -144,7 +144,7 @@ impl FieldForm<'static> {
         }
     }
 
-    /// How many octets this field has, or that it is `-`; nothing where it isn't as it may be. Takes no memory.
+    /// How many octets this field has, or that it is `-`; nothing if it isn't as it may be. Takes no memory.
     #[tactic(auto, unfolding(crate::specs::Fields::optional_octets_at))]
     pub(crate) fn optional_octets_len(self, fields: &str) -> Option<Option<usize>>
         requires { form.IsOptionalOctets self.1 }

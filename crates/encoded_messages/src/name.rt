@@ -3,7 +3,7 @@ ghost use Rattle.std.specs.Prelude.{◌≡◌, ◌≢◌, ◌∷◌, ◌++◌, L
 ghost use Rattle.encoded_messages.specs.Words.{Lacks};
 ghost use Rattle.encoded_messages.specs.Fields as said;
 
-/// What stands behind a front and the blank that follows it; `None` where the text doesn't begin with the two.
+/// What stands behind a front and the blank that follows it; `None` if the text doesn't begin with the two.
 fn behind<'a>(text: &'a str, front: &str) -> Option<&'a str>
     ensures { MatchOption result ((rest : List ℕ) → text.now ≢ front.now ++ 32 ∷ rest)
         (λ rest. text.now ≡ front.now ++ 32 ∷ rest.now) }
@@ -11,7 +11,7 @@ fn behind<'a>(text: &'a str, front: &str) -> Option<&'a str>
     text.strip_prefix(front)?.strip_prefix(' ')
 }
 
-/// What stands before the first `=` of a text, and behind it; `None` where it has none.
+/// What stands before the first `=` of a text, and behind it; `None` if it has none.
 fn around_equals(text: &str) -> Option<(&str, &str)>
     ensures { MatchOption result (Lacks 61 text.now)
         (λ cut. (text.now ≡ cut.0.now ++ 61 ∷ cut.1.now) × Lacks 61 cut.0.now) }
@@ -19,7 +19,7 @@ fn around_equals(text: &str) -> Option<(&str, &str)>
     text.split_once('=')
 }
 
-/// What stands before the last blank of a text, and behind it; `None` where it has none.
+/// What stands before the last blank of a text, and behind it; `None` if it has none.
 fn around_last_blank(text: &str) -> Option<(&str, &str)>
     ensures { MatchOption result (Lacks 32 text.now)
         (λ cut. (text.now ≡ cut.0.now ++ 32 ∷ cut.1.now) × Lacks 32 cut.1.now) }

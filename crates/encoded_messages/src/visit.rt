@@ -11,7 +11,7 @@ pub enum FieldValue<'m> {
     Channel(u8, Sub),
     /// A number.
     Number(u16),
-    /// An octet, where there is one.
+    /// An octet, if there is one.
     OptionalOctet(Option<u8>),
     /// A cause of the radio path, where the message passes one on.
     RrCause(Option<u8>),
@@ -21,7 +21,7 @@ pub enum FieldValue<'m> {
     Cause(u8),
     /// Octets that are printed as they are.
     Octets(&'m [u8]),
-    /// The octets of the radio resource message inside, where there is one.
+    /// The octets of the radio resource message inside, if there is one.
     Layer3(Option<&'m [u8]>),
     /// A cell.
     Cell(CellId),

@@ -6,7 +6,7 @@ ghost use Rattle.encoded_messages.specs.Words as said;
 
 use crate::form::FieldForm;
 
-/// The first word of a text, and what stands behind its blank; `None` where the text is one word.
+/// The first word of a text, and what stands behind its blank; `None` if the text is one word.
 pub(crate) fn first_word(text: &str) -> Option<(&str, &str)>
     ensures words { MatchOption result (said.words_of text.now ≡ text.now ∷ [])
         (λ cut. said.words_of text.now ≡ cut.0.now ∷ said.words_of cut.1.now) }
@@ -15,7 +15,7 @@ pub(crate) fn first_word(text: &str) -> Option<(&str, &str)>
     text.split_once(' ')
 }
 
-/// The first part of a list, and what stands behind its comma; `None` where the list has one part.
+/// The first part of a list, and what stands behind its comma; `None` if the list has one part.
 pub fn first_part(text: &str) -> Option<(&str, &str)>
     ensures parts { MatchOption result (said.parts_of text.now ≡ text.now ∷ [])
         (λ cut. said.parts_of text.now ≡ cut.0.now ∷ said.parts_of cut.1.now) }
@@ -24,14 +24,14 @@ pub fn first_part(text: &str) -> Option<(&str, &str)>
     text.split_once(',')
 }
 
-/// What stands before the first `/` of a text, and behind it; `None` where it has none.
+/// What stands before the first `/` of a text, and behind it; `None` if it has none.
 pub(crate) fn around_slash(text: &str) -> Option<(&str, &str)>
     ensures { option_map (λ cut. (cut.0.now, cut.1.now)) result ≡ said.cut_at 47 text.now }
 {
     text.split_once('/')
 }
 
-/// What stands before the first `;` of a text, and behind it; `None` where it has none.
+/// What stands before the first `;` of a text, and behind it; `None` if it has none.
 fn cut_at_semicolon(text: &str) -> Option<(&str, &str)>
     ensures { option_map (λ cut. (cut.0.now, cut.1.now)) result ≡ said.cut_at 59 text.now }
 {
@@ -45,7 +45,7 @@ fn behind_blank(text: &str) -> Option<&str>
     text.strip_prefix(' ')
 }
 
-/// What stands before the first `;` of a text, and behind the blank that follows it; `None` where there is none of the two.
+/// What stands before the first `;` of a text, and behind the blank that follows it; `None` if there is none of the two.
 pub(crate) fn around_semicolon(text: &str) -> Option<(&str, &str)>
     ensures { option_map (λ cut. (cut.0.now, cut.1.now)) result ≡ said.around_semicolon text.now }
 {
@@ -53,7 +53,7 @@ pub(crate) fn around_semicolon(text: &str) -> Option<(&str, &str)>
     Some((front, behind_blank(behind)?))
 }
 
-/// The key and the value of a word; `None` where it has no `=`.
+/// The key and the value of a word; `None` if it has no `=`.
 pub(crate) fn key_and_value(word: &str) -> Option<(&str, &str)>
     ensures { option_map (λ field. (field.0.now, field.1.now)) result ≡ said.field_of word.now }
 {

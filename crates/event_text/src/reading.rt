@@ -12,14 +12,14 @@ ghost use Rattle.event_text.specs.Reading as said;
 use channel_fsm::{ChanId, Sub};
 use radio_book::event::{Event, Kind, Timer, Why};
 
-/// A text up to its first blank, and what stands behind that. `None` where it has no blank.
+/// A text up to its first blank, and what stands behind that. `None` if it has no blank.
 fn first_word(text: &str) -> Option<(&str, &str)>
     ensures { option_map (λ cut. (cut.0.now, cut.1.now)) result ≡ said.cut_at 32 text.now }
 {
     text.split_once(' ')
 }
 
-/// A text up to its first `/`, and what stands behind that. `None` where it has none.
+/// A text up to its first `/`, and what stands behind that. `None` if it has none.
 fn first_part(text: &str) -> Option<(&str, &str)>
     ensures { option_map (λ cut. (cut.0.now, cut.1.now)) result ≡ said.cut_at 47 text.now }
 {
@@ -183,9 +183,9 @@ fn event(word: &str, text: &str) -> Option<Event>
     }
 }
 
-/// The event whose text this is: its words, with one blank between any two, as
-/// [`EventText`](crate::writing::EventText) writes them. `None` where the text is no event's: a zero stands in front of
-/// a number, a number is beyond its type, something stands too much. It takes no memory.
+/// The event whose text this is: its words, with one blank between any two, as [`EventText`](crate::writing::EventText)
+/// writes them. `None` if the text is no event's: a zero stands in front of a number, a number is beyond its type, something
+/// stands too much. It takes no memory.
 pub fn read_event(text: &str) -> Option<Event>
     ensures read { (e : Event) → Fits e → (result ≡ Some e) ↔ (text.now ≡ event_text e) }
     ensures fits { IfSome result Fits }

@@ -1,5 +1,5 @@
-//! What goes into a base station controller, and what comes out of it: messages as octets, operators' lines, expiries. It needs
-//! no book: scripts, traces and captures stand on it alone.
+//! What goes into a base station controller, and what comes out of it: messages as octets, operators' lines, expiries. This
+//! crate needs no book. Scripts, traces and captures need only this crate.
 #![tactic(auto)]
 
 ghost use Rattle.std.specs.Prelude.{◌≡◌, IfOk, OnErr};
@@ -25,13 +25,13 @@ pub use naming::chan_of;
 pub enum Line {
     /// A call begins on this channel (TS 48.058 clause 4.1).
     Open { call: u16, chan: ChanId },
-    /// A call begins on some free channel of this cell at a rate (TS 48.058 clause 4.1). Nothing comes of it where none is
-    /// free, as of a cell that the site doesn't have.
+    /// A call begins on some free channel of this cell at a rate (TS 48.058 clause 4.1). Nothing comes of it if none is
+    /// free, or if the site has no such cell.
     Seize { call: u16, cell: u8, rate: Rate },
-    /// A call is to move to this cell (TS 44.018 clause 3.4.4): an own one, or one of another controller, which have
-    /// numbers from 64 on. Nothing comes of a number that the site doesn't have.
+    /// A call is to move to this cell (TS 44.018 clause 3.4.4): an own cell, or an outside cell, numbered from 64. Nothing
+    /// comes of it if the site has no such cell.
     Handover { call: u16, cell: u8 },
-    /// The handover of a call is taken back.
+    /// The handover of a call is undone.
     Undo { call: u16 },
     /// A call ends.
     Clear { call: u16 },

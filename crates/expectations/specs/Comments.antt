@@ -8,7 +8,7 @@ behind mark line = if starts_with nat_eq line mark then Some (drop (length mark)
 
 -- a comment that says something to a test
 abbrev pub is_mark : List ℕ → Bool
-is_mark line = starts_with nat_eq line (codes "#>") || (is_some (behind (codes "#! ") line) || (is_some (behind (codes "#= ") line) || (is_some (behind (codes "#% site ") line) || is_some (behind (codes "#% peer ") line))))
+is_mark line = starts_with nat_eq line (codes "#>") || (is_some (behind (codes "#! ") line) || (is_some (behind (codes "#= ") line) || (is_some (behind (codes "#% site ") line) || (is_some (behind (codes "#% peer ") line) || is_some (behind (codes "#% cells ") line)))))
 
 -- a number sign, a blank or a tab
 abbrev pub is_sign : ℕ → Bool
@@ -20,7 +20,7 @@ behind_signs [] = []
 behind_signs (b ∷ bs) = if is_sign b then behind_signs bs else b ∷ bs
 
 abbrev pub begins_as_site : List ℕ → Bool
-begins_as_site text = starts_with nat_eq text (codes "site") || starts_with nat_eq text (codes "peer")
+begins_as_site text = starts_with nat_eq text (codes "site") || (starts_with nat_eq text (codes "peer") || starts_with nat_eq text (codes "cells"))
 
 -- by the first character; behind an equal sign by the whole text: five of them begin a ruler
 abbrev pub begins_by : ℕ → List ℕ → List ℕ → Bool

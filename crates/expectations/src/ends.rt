@@ -1,11 +1,11 @@
-//! Texts with which another begins, and which end where a word of that does, or between two of its octets.
+//! Whether a text begins with another one that ends at the end of a word, or between two octets.
 ghost use Rattle.std.specs.Prelude.{◌≡◌, true};
 ghost use Rattle.expectations.specs.Ends as said;
 
 use crate::marks::without_mark;
 use crate::stars::{is_end, rest_like};
 
-/// The last word of a text; nothing where a blank ends that.
+/// The last word of a text; nothing if a blank ends that.
 fn last_word(text: &[u8]) -> &[u8]
     ensures { result.now ≡ said.last_word text.now }
 {
@@ -94,7 +94,7 @@ pub(crate) fn begins_line(line: &str, text: &str) -> bool
     }
 }
 
-/// Whether a line in words begins with a text that ends a word, or between the octets of a field.
+/// Whether a line in words begins with a text that ends at the end of a word, or between the octets of a field.
 pub fn begins_words(words: &str, text: &str) -> bool
     ensures begins { result ≡ said.begins_words words.now text.now }
 {

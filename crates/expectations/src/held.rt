@@ -1,6 +1,6 @@
-//! What books hold, as answers to what is expected of them.
+//! What books hold, as answers to expectations.
 //!
-//! The answers are worked out of the lines `state ..` that `--state` prints. No clause says how: that is shown by tests.
+//! The answers are computed from the lines `state ..` that `--state` prints. No clause says how: tests show it.
 ghost use Rattle.std.specs.Prelude.{◌≡◌};
 ghost use Rattle.expectations.specs.Held as said;
 
@@ -60,7 +60,7 @@ fn call_question(rest: &str) -> Question<'_> {
     }
 }
 
-/// What is asked of the timers of this name; nothing where there are none (TS 44.018 clause 11.1, TS 48.008 clause 3.1.5).
+/// What is asked of the timers of this name; nothing if there are none (TS 44.018 clause 11.1, TS 48.008 clause 3.1.5).
 fn timers_question(name: &str) -> Option<Question<'_>> {
     match name {
         "T3103" | "T7" | "T8" => Some(Question::Timers(name)),
@@ -68,7 +68,7 @@ fn timers_question(name: &str) -> Option<Question<'_>> {
     }
 }
 
-/// What is asked by a text without its mark; nothing where its words ask for nothing.
+/// What is asked by a text without its mark; nothing if its words ask for nothing.
 fn question_of(text: &str) -> Option<Question<'_>> {
     if let Some(rest) = text.strip_prefix("trx ") {
         return Some(Question::Trx(first_word(rest)));
@@ -340,24 +340,24 @@ fn mark_fault(lines: &[&str], mark: &str) -> Option<&'static str> {
     if has_mark(lines, mark) {
         None
     } else if mark.is_empty() {
-        Some("no mark: 1: or 2: stands before it")
+        Some("with two controllers it has to begin with 1: or 2:")
     } else {
-        Some("no such controller: one alone has no mark")
+        Some("there is only one controller: its lines have no mark")
     }
 }
 
-/// What is answered to what is expected of books.
+/// The answer to an expectation about books.
 #[derive(Drop)]
 pub enum Answered<A: Allocator = Global> {
-    /// What they hold of it.
+    /// What they hold.
     Held(String<A>),
-    /// Nothing is asked of them: why. No expectation is met by that.
+    /// Why the expectation asks for nothing. It isn't met then.
     Unasked(&'static str),
 }
 
-/// What the lines of what books hold, as `--state` prints them, with a line `state trx CELL/TRX` for each TRX of the sites, answer
-/// to what is expected of these, in its form: `trx`, `channels`, `call`, `cell`, `calls`, `references` or `timers` behind a controller's
-/// mark.
+/// The answer to an expectation about books, in the expectation's form: `trx`, `channels`, `call`, `cell`, `calls`,
+/// `references` or `timers` after a controller's mark. `lines` says what the books hold, as `--state` prints it, with a line
+/// `state trx CELL/TRX` for each TRX of the sites.
 pub fn answer_to<A: Allocator + Copy>(
     alloc: A,
     expected: &str,
@@ -405,8 +405,8 @@ fn print_mark<'a, W: Write>(
     Ok(())
 }
 
-/// Prints what books hold, by the lines that `--state` prints, as the comments that expect it: of each controller its channels,
-/// and each call.
+/// Prints what books hold, as comments that expect it: for each controller its channels, and each call. `lines` says what
+/// they hold, as `--state` prints it.
 pub fn print_expected<'a, W: Write>(
     out: &mut W,
     lines: &'a [&'a str],
@@ -445,7 +445,7 @@ fn are_same_words(answer: &str, expected: &str) -> bool
     has_words_of(answer, expected) && has_words_of(expected, answer)
 }
 
-/// Whether an answer is what is expected: word for word, where `*` stands for any word; of channels in any order.
+/// Whether an answer is as expected: word by word, where `*` stands for any word. Channels may come in any order.
 pub fn is_answered(answer: &str, expected: &str) -> bool
     ensures answered { result ≡ said.is_answered answer.now expected.now }
 {

@@ -1,4 +1,4 @@
-//! Messages in words, and whether they are those that are expected.
+//! Whether messages in words are as expected.
 ghost use Rattle.std.specs.Prelude.{◌≡◌};
 ghost use Rattle.expectations.specs.InWords as said;
 
@@ -9,7 +9,7 @@ use crate::words::{has_words_like, have_same_name};
 
 /// Whether a message is an expected one: it has the same name, and all fields that are expected. `*` stands for any word, value, or
 /// part of a channel.
-fn is_part_met(part: &str, expected: &str) -> bool
+pub(crate) fn is_part_met(part: &str, expected: &str) -> bool
     ensures { result ≡ said.is_part_met part.now expected.now }
 {
     have_same_name(part, expected) && has_words_like(part, expected)
@@ -22,8 +22,8 @@ fn has_part(line: &str, expected: &str) -> bool
     line.split(';').any(|part| is_part_met(part, expected))
 }
 
-/// Whether a line in words is one that is expected: a message, what is said of it, and the message inside are its parts, which
-/// `;` ends but the last. Each part that is expected is one of these, with all the fields that are expected of it.
+/// Whether a line in words is as expected. Its parts are a message, words about it, and the message inside; each but the
+/// last ends with `;`. Each expected part is one of these, with all fields that are expected of it.
 pub fn are_in_words(line: &str, expected: &str) -> bool
     ensures met { result ≡ said.are_in_words line.now expected.now }
 {
@@ -37,8 +37,8 @@ fn are_met(words: &str, expected: &str) -> bool
     !words.is_empty() && are_in_words(words, expected)
 }
 
-/// Whether a line that came is one that is expected: it is that text, in which `*` stands for any word, part of a channel, or reply; or
-/// it is a message that is so in words.
+/// Whether a line that came is as expected: it is the text, in which `*` stands for any word, any part of a channel, or any
+/// reply; or it is a message that is like this in words.
 pub fn is_met_by(line: &str, words: &str, expected: &str) -> bool
     ensures met { result ≡ said.is_met_by line.now words.now expected.now }
 {
@@ -52,8 +52,9 @@ fn is_refused_as(line: &str, words: &str, text: &str) -> bool
     begins_line(line, text) || begins_words(words, text) || are_met(words, text)
 }
 
-/// Whether a line that came is one that is refused: it begins with that text, by itself or in words, which ends a word there, or
-/// between two octets; or it is a message that is so in words. Where the text has no controller's mark, the line may be of any.
+/// Whether a line that came is one that mustn't come: it begins with the text, by itself or in words, and a word ends there,
+/// or the text ends between two octets; or it is a message that is like this in words. If the text has no controller's mark,
+/// the line may be of either controller.
 pub fn is_refused_by(line: &str, words: &str, text: &str) -> bool
     ensures refused { result ≡ said.is_refused_by line.now words.now text.now }
 {

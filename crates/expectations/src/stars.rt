@@ -10,7 +10,7 @@ pub(crate) fn is_end(octet: u8) -> bool
 }
 
 /// What stands behind the word that begins a line, or behind the part of it that a slash ends.
-fn behind_star(line: &[u8], is_part: bool) -> &[u8]
+pub(crate) fn behind_star(line: &[u8], is_part: bool) -> &[u8]
     ensures { result.now ≡ said.behind_star line.now is_part }
 {
     let mut rest = line;
@@ -83,7 +83,7 @@ pub(crate) fn is_like(word: &str, other: &str) -> bool
 }
 
 /// Whether a text stands for any reply of the book.
-fn ends_with_any_reply(text: &str) -> bool
+pub(crate) fn ends_with_any_reply(text: &str) -> bool
     ensures { result ≡ said.ends_with_any_reply text.now }
 {
     text.as_bytes().ends_with(b"-> *")

@@ -170,16 +170,12 @@ pub fn refusal_words(number: u8) -> Option<&'static str>
     match number {
         1 => Some("there is no such call"),
         2 => Some("the call is there already"),
-        3 => Some(
-            "no attempt is open, or the call or its attempt hasn't come so far, or is past it",
-        ),
+        3 => Some("no attempt is open, or the call or its attempt is at the wrong stage"),
         4 => Some("the site names no such traffic channel"),
         5 => Some("the channel lies in the cell where the call is served"),
         6 => Some("this channel isn't free"),
         7 => Some("this handover reference is in use"),
-        8 => Some(
-            "this channel is in use for no call, or doesn't wait for this message of its station",
-        ),
+        8 => Some("no call has this channel, or it doesn't wait for this message of its station"),
         9 => Some("the timer isn't armed for the call"),
         _ => None,
     }

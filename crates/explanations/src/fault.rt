@@ -25,7 +25,7 @@ pub enum Argument {
 }
 
 impl Argument {
-    /// The least and the greatest number that the argument may be; `None` where there is none.
+    /// The least and the greatest number that the argument may be; `None` if there is none.
     pub fn range(self) -> Option<(usize, usize)>
         ensures range { result ≡ range_of self }
     {
@@ -57,7 +57,7 @@ impl fmt::Display for Argument {
             Argument::MessageType => "a message type",
             Argument::Identifier => "an element identifier",
             Argument::OffsetOnA | Argument::OffsetOnAbis => "an offset",
-            Argument::ElementFault => "the number of what is wrong with the element",
+            Argument::ElementFault => "the number of the element's fault",
         })
     }
 }
@@ -164,7 +164,7 @@ pub fn last_fault(link: LinkName) -> u8
     }
 }
 
-/// What the argument of the fault of this number on a link is; `None` where there is no such fault.
+/// What the argument of the fault of this number on a link is; `None` if there is no such fault.
 pub fn argument_of(link: LinkName, number: u8) -> Option<Argument>
     ensures argument { result ≡ argument_at (faults_on link) number }
 {
@@ -175,8 +175,7 @@ pub fn argument_of(link: LinkName, number: u8) -> Option<Argument>
 }
 
 /// The fault of this number on a link, with its argument where that is known; the numbers are those from 1 to
-/// [`last_fault`]. `None` where there is no such fault, or where it can't have this argument
-/// ([`argument_of`]).
+/// [`last_fault`]. `None` if there is no such fault, or if it can't have this argument ([`argument_of`]).
 pub fn fault_of(link: LinkName, number: u8, argument: Option<usize>) -> Option<Fault>
     ensures some { IsSome result ↔ IsTrue (is_fault link number argument) }
 {

@@ -52,7 +52,7 @@ fn refusal(number: u8) -> Option<Answer>
     Some(Answer::Refusal(refusal_name(number)?, refusal_words(number)?))
 }
 
-/// What is said; `None` where there is no refusal or no fault of this number, or where the fault can't have this argument. It
+/// What is said; `None` if there is no refusal or no fault of this number, or where the fault can't have this argument. It
 /// takes no memory.
 pub fn answer_to(question: Question) -> Option<Answer>
     ensures known { IsSome result ↔ IsKnown question }

@@ -1,8 +1,8 @@
 //! A law of lists of candidates.
 ghost use Rattle.ho_candidates.specs.Order.{OneListInOrder};
 
-/// Two lists in order that have the same candidates are equal: [`candidates`](crate::candidates) can answer one list
-/// alone.
+/// Two ordered lists of the same candidates are equal. So there is only one list that [`candidates`](crate::candidates) can
+/// answer.
 pub fn one_list_in_order()
     ensures law { OneListInOrder }
 {}

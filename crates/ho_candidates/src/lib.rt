@@ -1,5 +1,5 @@
-//! The cells that a mobile may be handed over to, by its measurement reports. When a cell is one, and in what order they
-//! come, is this project's own rule.
+//! The cells that a mobile may be handed over to, by its measurement reports. The rule for candidates, and their order, are
+//! this project's own.
 #![tactic(auto)]
 
 pub mod laws;

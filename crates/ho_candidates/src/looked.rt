@@ -49,17 +49,17 @@ fn candidate_in<W: Allocator, S: Allocator + Copy>(
     Some(Candidate { cell: other, sum })
 }
 
-/// The cells that a mobile in an own cell may be handed over to, by the reports in a window that was made for as many as
-/// the site says (`window`).
+/// The cells that a mobile in an own cell may be handed over to, by the reports in its window. The window has room for as
+/// many reports as the site says (`window`).
 ///
-/// A candidate is another cell, own or outside, whose carrier is in the serving cell's `ba` and whose levels, added up
-/// over the reports, are at least those of the serving cell and `margin` more for each report, and at least `minimum`
-/// for each report. In a report that doesn't name the cell, by its position in the neighbour list and its base station
-/// identity code, its level counts 0. Candidates are listed by their sums, the largest first, and where sums are equal
-/// by their cells, the lowest first.
+/// A candidate is another cell, own or outside, with its carrier in the serving cell's `ba`. The sum of its levels over the
+/// reports is at least the serving cell's sum plus `margin` for each report, and at least `minimum` for each report. In a
+/// report that doesn't name the cell, by its position in the neighbour list and its base station identity code, its level
+/// counts as 0. Candidates are listed by their sums, the largest first; those with equal sums by their cells, the lowest
+/// first.
 ///
-/// There is none as long as the window isn't full, nor where `cell` isn't an own cell of the site. Memory is refused
-/// only where there is a candidate.
+/// There is none until the window is full, nor if `cell` isn't an own cell of the site. Memory can be refused only if there
+/// is a candidate.
 pub fn candidates<A: Allocator, W: Allocator, S: Allocator + Copy>(
     alloc: A,
     window: &Window<W>,

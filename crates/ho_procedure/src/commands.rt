@@ -19,8 +19,8 @@ struct TargetCell {
     power: u8,
 }
 
-/// HANDOVER COMMAND (TS 44.018 clause 9.1.15) to a channel of the site, with this reference; `None` where the channel is
-/// not a traffic channel of the site.
+/// HANDOVER COMMAND (TS 44.018 clause 9.1.15) to a channel of the site, with this reference; `None` if the channel is not a
+/// traffic channel of the site.
 pub(crate) fn command_to<S: Allocator + Copy>(
     site: &Site<S>,
     target: ChanId,
@@ -68,7 +68,7 @@ fn command(cell: TargetCell, carrier: u16, tn: u8, sub: Sub, reference: u8) -> O
     })
 }
 
-/// A cell, own or outside, as messages on A name it (TS 48.008 clause 3.2.2.17); `None` where the site lacks it.
+/// A cell, own or outside, as messages on A name it (TS 48.008 clause 3.2.2.17); `None` if the site lacks it.
 pub(crate) fn cell_id_at<S: Allocator + Copy>(site: &Site<S>, cell: u8) -> Option<CellId>
     ensures cell { result ≡ cell_id_at site.now cell }
     ensures area { IfSome result (λ cell. IsSome cell.lac) }

@@ -1,4 +1,4 @@
-//! The controller: what it does for each input.
+//! The controller, which handles each input.
 ghost use Rattle.std.specs.Prelude.{◌≡◌, ℕ, List, [], IfOk, IfErr, OnOk, OnErr, Err};
 ghost use Rattle.radio_desk.specs.Desk.{IsAnew};
 ghost use Rattle.ho_procedure.specs.Claims.{Entry, Claim, UnknownReceipt};
@@ -47,9 +47,8 @@ impl<D: DeskView + Drop, A: Allocator> Model for Controller<D, A> {
 }
 
 impl<D: DeskView + Drop, A: Allocator + Copy> Controller<D, A> {
-    /// A controller of a site that asks this view. It has no report of any call, and nothing was asked yet. The view is
-    /// to ask a book of the same site; no clause asks for that. No memory is taken: `alloc` serves for what is handled
-    /// later.
+    /// A controller of a site that asks this view. It has no reports of any call, and has asked nothing yet. The view has to
+    /// ask a book of the same site; no clause requires it. No memory is taken: `alloc` is for inputs that are handled later.
     pub fn new(alloc: A, view: D, site: Arc<Site<A>, A>) -> Controller<D, A>
         ensures view { result.0 ≡ view }
         ensures reports { (call : ℕ) → last_reports result.1 call ≡ [] }
@@ -170,7 +169,7 @@ impl<D: DeskView + Drop, A: Allocator + Copy> Controller<D, A> {
 }
 
 impl<D: OwnDesk + Drop, A: Allocator + Copy> Controller<D, A> {
-    /// Its desk begins anew with today's book ([`OwnDesk::begin_anew`]). The last reports of each call stay. Where memory is
+    /// Begins its desk anew with today's book ([`OwnDesk::begin_anew`]). The last reports of each call stay. If memory is
     /// refused, nothing changes.
     pub fn begin_anew(&mut self) -> Result<(), AllocError>
         ensures anew { OnOk result (IsAnew (D.desk self.old.0) (D.desk self.new.0)) }

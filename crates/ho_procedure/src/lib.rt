@@ -1,5 +1,5 @@
-//! The procedure of a base station controller: what goes into a controller and comes out of it, and what it asks of
-//! its book and sends for each input.
+//! The procedure of a base station controller: for each input, the events that it asks of its book, and the messages that it
+//! sends.
 #![tactic(auto)]
 
 mod buffers;

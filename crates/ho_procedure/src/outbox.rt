@@ -98,7 +98,7 @@ impl<A: Allocator + Copy> Outbox<A> {
     }
 
     /// Makes room for this many messages more. Where there is room for them, and for one, no memory is asked for. The
-    /// messages stay, also where memory is refused.
+    /// messages stay, also if memory is refused.
     pub(crate) fn make_room(&mut self, more: usize) -> Result<(), AllocError>
         ensures ok { OnOk result (more ≤ self.new.room) }
         ensures had_room { 1 ≤ self.old.room → more ≤ self.old.room → IsOk result }
@@ -111,7 +111,7 @@ impl<A: Allocator + Copy> Outbox<A> {
     }
 
     /// Makes room for one message in which so many octets are passed on unread. Where there is room for it, no memory is
-    /// asked for. The messages stay, also where memory is refused.
+    /// asked for. The messages stay, also if memory is refused.
     pub(crate) fn make_unread_room(&mut self, octets: usize) -> Result<(), AllocError>
         requires { octets ≤ 1015 }
         ensures ok { OnOk result (1 ≤ self.new.room) }

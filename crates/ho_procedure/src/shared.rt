@@ -12,8 +12,8 @@ use std::alloc::{Allocator, Global};
 use std::marker::Model;
 use std::sync::{Arc, Mutex, Wait};
 
-/// One thread's seat at a desk that threads share under one lock, with the receipts that it got there. Contracts see it as
-/// these receipts, in their order.
+/// One thread's seat at a desk that threads share under one lock, with its receipts. Contracts see it as these receipts, in
+/// order.
 ///
 /// Each call takes the lock, and may wait for another thread to give it back. Between two calls others may have asked the
 /// desk. So it says nothing of the desk's book: any call may find no channel free. Once the seat has a receipt, it may meet

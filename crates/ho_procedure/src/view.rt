@@ -70,7 +70,7 @@ pub trait DeskView {
         }
     }
 
-    /// Asks a Take of some channel of a cell that is free at a rate. `None` where there is none, and faults, as of `ask`.
+    /// Asks a Take of some channel of a cell that is free at a rate. `None` if there is none, and faults, as of `ask`.
     final fn judge_take(
         &mut self,
         call: u16,
@@ -96,7 +96,7 @@ pub trait DeskView {
         self.ask(Ask::Take(call, kind, cell, rate))
     }
 
-    /// Asks an Open on some channel of a cell that is free at a rate. `None` where there is none, and faults, as of `ask`.
+    /// Asks an Open on some channel of a cell that is free at a rate. `None` if there is none, and faults, as of `ask`.
     final fn judge_open(
         &mut self,
         call: u16,

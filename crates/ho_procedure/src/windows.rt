@@ -56,8 +56,8 @@ impl<A: Allocator + Copy> Windows<A> {
         }
     }
 
-    /// Makes room for the reports of one more call. Where there is room for them, no memory is asked for. The reports
-    /// stay, also where memory is refused.
+    /// Makes room for the reports of one more call. Where there is room for them, no memory is asked for. The reports stay,
+    /// also if memory is refused.
     pub(crate) fn make_room(&mut self) -> Result<(), AllocError>
         ensures ready { OnOk result (IsTrue self.new.is_ready) }
         ensures had_room { self.old.is_ready ≡ true → IsOk result }

@@ -1,7 +1,10 @@
-//! The lines of a script that come to nothing.
+//! The lines of a script that have no effect.
+use crate::inputs::lack_of_restart;
+use crate::lack::Lack;
 use crate::lines::{Kind, Line, chan_of, lines_of, without_line};
-use crate::played::{Asked, Texts, gives_trace, trace_of};
+use crate::played::{Asked, Taken, Texts, gives_trace, trace_of};
 use bts_model::{Act, Habit, Setting};
+use cell_table::Site;
 use channel_fsm::ChanId;
 use lab_runs::run::Sites;
 use lab_script::script::Side;
@@ -11,20 +14,22 @@ use std::alloc::{AllocError, Allocator, Global};
 /// So many lines are played at most to find out what settings come to.
 const MOST_PLAYED: usize = 100_000;
 
-/// Why a line of a script comes to nothing.
+/// Why a line of a script has no effect.
 #[derive(Clone, Copy, Debug, PartialEq, Eq)]
 pub enum Cause {
-    /// The site of this controller lacks the channel that it names.
-    NoChannel(Side, ChanId),
+    /// It asks something of a station, and there isn't this.
+    Lacks(Lack),
     /// Without it the same comes. It is about this channel.
     Unused(ChanId),
-    /// Without it the same comes, as another line behind it takes its place. It is about this channel.
+    /// Without it the same comes, because a later line replaces it. It is about this channel.
     Again(ChanId),
     /// It asks the book of its controller in vain.
     Unmet(Unmet),
+    /// It is an input of which nothing came, and could come in no state of the book, as there isn't this.
+    Input(Lack),
 }
 
-/// A line of a script that comes to nothing.
+/// A line of a script that has no effect.
 #[derive(Clone, Copy, Debug, PartialEq, Eq)]
 pub struct Idle {
     /// Its number, counted from 1.
@@ -43,23 +48,38 @@ fn noted_first(
     }
 }
 
-/// What was found of the lines of a script that come to nothing.
+/// The lines of a script that have no effect, as far as they were looked for.
 #[derive(Drop)]
 pub struct Found<A: Allocator = Global> {
-    /// They, in their order.
+    /// These lines, in order.
     pub idle: Vec<Idle, A>,
-    /// Whether it was found out of each setting of the script.
+    /// The numbers of lines that have one: inputs of which something came, and settings without which something else comes.
+    pub effects: Vec<usize, A>,
+    /// The calls that it opened under a number for which the switching centre asks.
+    pub taken: Vec<Taken, A>,
+    /// Whether each setting of the script was looked at.
     pub is_whole: bool,
+}
+
+/// The site of a side.
+fn site_of<A: Allocator + Copy>(sites: &Sites<A>, side: Side) -> Option<&Site<A>> {
+    match (side, &sites.peer) {
+        (Side::First, _) => Some(&sites.first),
+        (Side::Peer, Some(peer)) => Some(peer),
+        (Side::Peer, None) => None,
+    }
 }
 
 /// Whether the site of a side has a channel.
 fn has_channel<A: Allocator + Copy>(sites: &Sites<A>, side: Side, chan: ChanId) -> bool {
-    match side {
-        Side::First => sites.first.is_traffic(chan),
-        Side::Peer => match &sites.peer {
-            Some(peer) => peer.is_traffic(chan),
-            None => false,
-        },
+    site_of(sites, side).is_some_and(|site| site.is_traffic(chan))
+}
+
+/// What the site of its side lacks of the station that a line restarts.
+fn restart_lack<A: Allocator + Copy>(sites: &Sites<A>, line: Line) -> Option<Lack> {
+    match line.kind {
+        Kind::Restart(side, restart) => lack_of_restart(site_of(sites, side)?, side, restart),
+        Kind::Setting(..) | Kind::OfCall(_) | Kind::Input | Kind::Other => None,
     }
 }
 
@@ -103,7 +123,7 @@ enum Order {
     Backward,
 }
 
-/// How a setting is looked at; nothing where it sets back what another asked: there may be nothing to set back.
+/// How a setting is looked at; nothing if it sets back what another asked: there may be nothing to set back.
 fn order_of(act: Act) -> Option<Order> {
     match act {
         Act::Refuse | Act::Mobile(Habit::Return | Habit::Vanish) | Act::Double | Act::Cut(_) => {
@@ -125,7 +145,7 @@ struct Search<'a, A: Allocator + Copy> {
 }
 
 impl<A: Allocator + Copy> Search<'_, A> {
-    /// The script without the settings that take the place of another, of these behind it; nothing where none does.
+    /// The script without the settings that take the place of another, of these behind it; nothing if none does.
     fn without_others(
         &self,
         placed: Placed,
@@ -201,7 +221,7 @@ impl<A: Allocator + Copy> Search<'_, A> {
 /// Whether some of what a script's lines give may come to nothing.
 fn may_be_idle(lines: &[Line]) -> bool {
     lines.iter().any(|line| match line.kind {
-        Kind::Setting(..) | Kind::OfCall(_) | Kind::Ask => true,
+        Kind::Setting(..) | Kind::OfCall(_) | Kind::Restart(..) | Kind::Input => true,
         Kind::Other => false,
     })
 }
@@ -211,7 +231,7 @@ fn setting_of(line: Line, asked: Option<Setting>) -> Option<Placed> {
     let (side, setting) = match line.kind {
         Kind::Setting(side, setting) => (side, setting),
         Kind::OfCall(side) => (side, asked?),
-        Kind::Ask | Kind::Other => return None,
+        Kind::Restart(..) | Kind::Input | Kind::Other => return None,
     };
     Some(Placed {
         number: line.number,
@@ -225,6 +245,33 @@ fn add_unmet<A: Allocator>(asked: &Asked<A>, idle: &mut Vec<Idle, A>) -> Result<
     for (line, unmet) in &asked.unmet {
         let cause = Cause::Unmet(*unmet);
         idle.push(Idle { line: *line, cause })?;
+    }
+    Ok(())
+}
+
+/// Adds the inputs of which nothing could come.
+fn add_inputs<A: Allocator>(asked: &Asked<A>, idle: &mut Vec<Idle, A>) -> Result<(), AllocError> {
+    for (line, lack) in &asked.inputs {
+        let cause = Cause::Input(*lack);
+        idle.push(Idle { line: *line, cause })?;
+    }
+    Ok(())
+}
+
+/// Adds the lines that restart a station that there isn't.
+fn add_restarts<A: Allocator + Copy>(
+    sites: &Sites<A>,
+    lines: &[Line],
+    idle: &mut Vec<Idle, A>,
+) -> Result<(), AllocError> {
+    for line in lines {
+        if let Some(lack) = restart_lack(sites, *line) {
+            let cause = Cause::Lacks(lack);
+            idle.push(Idle {
+                line: line.number,
+                cause,
+            })?;
+        }
     }
     Ok(())
 }
@@ -248,12 +295,27 @@ fn settings_of<A: Allocator + Copy>(
             }
             Some(placed) => idle.push(Idle {
                 line: placed.number,
-                cause: Cause::NoChannel(placed.side, placed.chan()),
+                cause: Cause::Lacks(Lack::Channel(placed.side, placed.chan())),
             })?,
             None => {}
         }
     }
     Ok(settings)
+}
+
+/// Adds the settings that were looked at, and aren't idle, to the lines that have an effect.
+fn add_used<A: Allocator>(
+    settings: &[Placed],
+    idle: &[Idle],
+    effects: &mut Vec<usize, A>,
+) -> Result<(), AllocError> {
+    for placed in settings {
+        let is_idle = idle.iter().any(|idle| idle.line == placed.number);
+        if order_of(placed.setting.act).is_some() && !is_idle {
+            effects.push(placed.number)?;
+        }
+    }
+    Ok(())
 }
 
 /// Adds those of a script's settings without which the same comes to what is known to come to nothing.
@@ -278,9 +340,10 @@ fn look_at_all<A: Allocator + Copy>(
 }
 
 /// The lines of a script that come to nothing over sites: settings for a channel that a site lacks; settings without which the same
-/// comes of each line, one after another, until each that is left matters (but for `let` and `arrive`, which set back, and where more
-/// than 100,000 lines would be played for it); lines that ask a controller's book in vain. Nothing is said of a script that can't be
-/// read, nor where a text describes no site.
+/// comes of each line, one after another, until each that is left matters (but for `let`, `arrive` and `restart`, which set back, and
+/// where more than 100,000 lines would be played for it); lines that ask a controller's book in vain; inputs of which nothing came, and
+/// nothing could, because there isn't the cell, the TRX, the channel or the call. Nothing is said of a script that can't be read, nor
+/// where a text describes no site.
 pub fn idle_settings<A: Allocator + Copy>(
     alloc: A,
     sites: Texts<'_>,
@@ -288,6 +351,8 @@ pub fn idle_settings<A: Allocator + Copy>(
 ) -> Result<Found<A>, LabFault> {
     let mut found = Found {
         idle: Vec::new(alloc),
+        effects: Vec::new(alloc),
+        taken: Vec::new(alloc),
         is_whole: true,
     };
     let lines = lines_of(alloc, script, sites.peer.is_some())?;
@@ -302,11 +367,16 @@ pub fn idle_settings<A: Allocator + Copy>(
         return Ok(found);
     };
     add_unmet(&asked, &mut found.idle)?;
+    add_inputs(&asked, &mut found.idle)?;
+    add_restarts(&read, &lines, &mut found.idle)?;
     let settings = settings_of(alloc, &read, &lines, &asked, &mut found.idle)?;
     found.is_whole = lines.len().saturating_mul(settings.len()) <= MOST_PLAYED;
     if found.is_whole {
         found.idle = look_at_all(alloc, sites, script, &trace, &settings, found.idle)?;
+        add_used(&settings, &found.idle, &mut asked.effects)?;
     }
     found.idle.sort_unstable_by_key(|idle| idle.line);
+    found.effects = asked.effects;
+    found.taken = asked.taken;
     Ok(found)
 }

@@ -1,5 +1,5 @@
 //! The lines of a script that give something.
-use bts_model::Setting;
+use bts_model::{Restart, Setting};
 use channel_fsm::ChanId;
 use lab_script::script::{
     Given, Item, ScriptFault, Side, is_blank, is_comment, read_script, without_return,
@@ -13,8 +13,10 @@ pub(crate) enum Kind {
     Setting(Side, Setting),
     /// A setting of the channel that a call has.
     OfCall(Side),
-    /// It asks the book of its controller.
-    Ask,
+    /// A station restarts.
+    Restart(Side, Restart),
+    /// It asks the book of its controller, or is an input.
+    Input,
     Other,
 }
 
@@ -30,8 +32,9 @@ fn kind_of<A: Allocator>(item: &Item<A>) -> Kind {
     match &item.given {
         Given::Set(setting) => Kind::Setting(item.side, *setting),
         Given::MobileOf { .. } => Kind::OfCall(item.side),
-        Given::Ask(_) => Kind::Ask,
-        Given::Input(_) | Given::Attach | Given::HangUp(_) => Kind::Other,
+        Given::Restart(restart) => Kind::Restart(item.side, *restart),
+        Given::Ask(_) | Given::Input(_) => Kind::Input,
+        Given::Attach | Given::HangUp(_) => Kind::Other,
     }
 }
 
@@ -54,7 +57,7 @@ fn gives(line: &str) -> bool {
     !is_comment(line) && !is_blank(line)
 }
 
-/// What a script gives; nothing where a line can't be read.
+/// What a script gives; nothing if a line can't be read.
 fn items_of<A: Allocator + Copy>(
     alloc: A,
     script: &str,

@@ -1,15 +1,18 @@
-//! A script that is played, and what comes of each of its lines.
+//! Plays a script, and gathers what comes of each of its lines.
+use crate::inputs::{has_effect, lack_of, opened_in, taken_in};
+use crate::lack::Lack;
 use crate::lines::{Line, lines_of};
 use bts_model::Setting;
 use cell_table::{Site, SiteFault};
 use lab_runs::run::{Sites, play, read_sites};
+use lab_script::script::Side;
 use radio_book::book::Book;
 use run_listeners::{LabFault, Listener, Printing, Turn, Unmet};
 use std::alloc::{AllocError, Allocator, Global};
 use std::io::{self, ErrorKind, Write};
 use trace_text::trace::Mark;
 
-/// The texts of a controller's site, of its peer's where there is one, and what serves while they are read.
+/// The texts of a controller's site and of its peer's, if there is one, and memory for reading them.
 #[derive(Clone, Copy)]
 pub struct Texts<'a> {
     pub scratch: Global,
@@ -18,7 +21,7 @@ pub struct Texts<'a> {
 }
 
 impl Texts<'_> {
-    /// The sites; nothing where a text describes none.
+    /// The sites; nothing if a text describes none.
     pub(crate) fn sites<A: Allocator + Copy>(self, alloc: A) -> Result<Option<Sites<A>>, LabFault> {
         match read_sites(alloc, self.scratch, self.first, self.peer) {
             Ok(sites) => Ok(Some(sites)),
@@ -48,11 +51,39 @@ impl Write for Matching<'_> {
     }
 }
 
-/// What lines asked of the mobile of a call, and why nothing came of those that asked in vain, behind their numbers.
+/// A call that a script opened under a number for which the simulated switching centre then asks.
+#[derive(Clone, Copy, Debug, PartialEq, Eq)]
+pub struct Taken {
+    /// The number of the line that opened it, counted from 1.
+    pub line: usize,
+    pub call: u16,
+    /// The number of the line behind which the centre asks first.
+    pub asked: usize,
+}
+
+/// A call that a line opened.
+#[derive(Clone, Copy)]
+pub(crate) struct Opened {
+    line: usize,
+    side: Side,
+    call: u16,
+}
+
+/// What was noted of lines, by their numbers.
 #[derive(Drop)]
 pub(crate) struct Asked<A: Allocator = Global> {
+    /// What lines asked of the mobile of a call.
     pub settings: Vec<(usize, Setting), A>,
+    /// Why nothing came of those that asked in vain.
     pub unmet: Vec<(usize, Unmet), A>,
+    /// What there isn't, where nothing could come of an input.
+    pub inputs: Vec<(usize, Lack), A>,
+    /// The numbers of lines that gave an input of which something came.
+    pub effects: Vec<usize, A>,
+    /// The calls that were opened.
+    opened: Vec<Opened, A>,
+    /// Those for which the switching centre asked.
+    pub taken: Vec<Taken, A>,
 }
 
 impl<A: Allocator + Copy> Asked<A> {
@@ -61,6 +92,50 @@ impl<A: Allocator + Copy> Asked<A> {
         Asked {
             settings: Vec::new(alloc),
             unmet: Vec::new(alloc),
+            inputs: Vec::new(alloc),
+            effects: Vec::new(alloc),
+            opened: Vec::new(alloc),
+            taken: Vec::new(alloc),
+        }
+    }
+
+    /// The line that opened a call last.
+    fn line_of(&self, side: Side, call: u16) -> Option<usize> {
+        let mut opened = self.opened.iter().rev();
+        let found = opened.find(|opened| opened.side == side && opened.call == call)?;
+        Some(found.line)
+    }
+
+    /// Notes that the switching centre asked for a call which a line opened, the first time.
+    fn note_taken(&mut self, side: Side, call: u16, asked: usize) -> Result<(), AllocError> {
+        match self.line_of(side, call) {
+            Some(line) if self.taken.iter().all(|taken| taken.line != line) => {
+                Ok(self.taken.push(Taken { line, call, asked })?)
+            }
+            Some(_) | None => Ok(()),
+        }
+    }
+
+    /// Notes what a turn, behind the line of a number, says of its line, and of calls.
+    fn note(&mut self, number: usize, turn: &Turn<A>, book: &Book<A>) -> Result<(), AllocError> {
+        let alloc = *self.unmet.allocator();
+        match lack_of(alloc, book, turn)? {
+            Some(lack) => self.inputs.push((number, lack))?,
+            None if has_effect(turn) && self.effects.last().copied() != Some(number) => {
+                self.effects.push(number)?;
+            }
+            None => {}
+        }
+        if let Some(call) = opened_in(turn) {
+            self.opened.push(Opened {
+                line: number,
+                side: turn.side,
+                call,
+            })?;
+        }
+        match taken_in(alloc, turn)? {
+            Some(call) => self.note_taken(turn.side, call, number),
+            None => Ok(()),
         }
     }
 }
@@ -111,6 +186,7 @@ impl<W: Write, A: Allocator + Copy> Listener<A> for Hearing<'_, '_, '_, W, A> {
     }
 
     fn hear_turn(&mut self, mark: Mark, turn: &Turn<A>, book: &Book<A>) -> Result<(), LabFault> {
+        self.asked.note(self.number, turn, book)?;
         self.print_number()?;
         Printing::new(self.out).hear_turn(mark, turn, book)
     }
@@ -155,7 +231,7 @@ fn play_to<A: Allocator + Copy, W: Write>(
     Ok(play(alloc, sites, script, &mut hearing)?.is_some())
 }
 
-/// What comes of the lines of a script, which are these; what they ask is noted. Nothing where it isn't run.
+/// What comes of the lines of a script, which are these; what they ask is noted. Nothing if it isn't run.
 pub(crate) fn trace_of<A: Allocator + Copy>(
     alloc: A,
     sites: Texts<'_>,

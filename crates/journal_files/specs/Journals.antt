@@ -57,14 +57,21 @@ begun number head = first_line ++ record_text number head
 pub record SameFiles {R F D : Type 0} (j j' : Journal R F D) : Type 0 where
   pub file : file_of j' ≡ file_of j
   pub spans : spans_of j' ≡ spans_of j
+  pub keep : keep_of j' ≡ keep_of j
 
 -- so many files stay at most; any, where that isn't said
 abbrev pub AreKept : Option ℕ → List ℕ → Type 0
 AreKept None spans = ⊤
 AreKept (Some keep) spans = length spans ≤ max keep 1
 
--- The oldest files are removed, and never the last one, which is written.
-pub record OldestGo (old new : List ℕ) : Type 0 where
+-- Some files may go, and others stay: if so many are to stay, so many do; if that isn't said, none goes.
+abbrev pub MayGo : Option ℕ → List ℕ → List ℕ → Type 0
+MayGo None gone stay = gone ≡ []
+MayGo (Some keep) gone stay = gone ≢ [] → max keep 1 ≤ length stay
+
+-- The oldest files are removed, only such as needn't stay, and never the last one, which is written.
+pub record OldestGo (keep : Option ℕ) (old new : List ℕ) : Type 0 where
   pub gone : List ℕ
   pub rest : old ≡ gone ++ new
   pub last : old ≢ [] → new ≢ []
+  pub spared : MayGo keep gone new

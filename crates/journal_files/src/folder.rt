@@ -1,6 +1,7 @@
 //! The folder of a journal.
 //!
-//! It is a handle: its files are those of the folder that was opened, also where that was moved, and another stands at its path.
+//! It is a handle: its files are those of the folder that was opened, even if that folder was moved since and another one
+//! has its path.
 ghost use Rattle.std.specs.Prelude.{OnOk, IfOk};
 ghost use Rattle.std.specs.Io.KnownBytes.{Appends};
 ghost use Rattle.journal_files.specs.Journals.{IsHanded, IsRead};
@@ -15,8 +16,8 @@ use std::io::{self, Read, Write};
 use std::os::unix::fs::{MetadataExt, OpenOptionsExt};
 use std::rt::Files;
 
-/// The folder of a journal, which one controller has for itself as long as this is there: the folder, and the file `lock` in
-/// it. Who removes that file doesn't give the folder away.
+/// The folder of a journal. As long as this value exists, one controller has the folder, and the file `lock` in it, for
+/// itself. Removing that file doesn't release the folder.
 #[derive(Drop)]
 pub struct Folder<'a, R: Files + AllocGlobal> {
     rt: &'a R,
@@ -24,7 +25,7 @@ pub struct Folder<'a, R: Files + AllocGlobal> {
     path: &'a str,
     folder: R::File,
     lock: R::File,
-    /// The path by which the system knows the opened folder; nothing where it has none.
+    /// The path by which the system knows the opened folder; nothing if it has none.
     handle: Option<String>,
 }
 
@@ -77,7 +78,7 @@ fn stands_at<R: Files>(rt: &R, opened: &R::File, path: &str) -> bool {
     }
 }
 
-/// The path by which the system knows an opened folder; nothing where it has none.
+/// The path by which the system knows an opened folder; nothing if it has none.
 fn handle_of<R: Files + AllocGlobal>(rt: &R, folder: &R::File) -> Result<Option<String>, AllocError>
 where
     R::File: Locking,
@@ -114,9 +115,9 @@ fn refuse_link<R: Files>(rt: &R, path: &str) -> io::Result<()> {
 }
 
 impl<'a, R: Files + AllocGlobal> Folder<'a, R> {
-    /// Makes the folder of this path, and those above it, unless it is there, and has its name on the disk. The answer is
-    /// whether it has: not where the folder above can't be synced. Who may not read it can't, and nobody can on some file
-    /// systems, or on a full disk.
+    /// Makes the folder at this path, and those above it, if it isn't there, and syncs its name to the disk. The answer is
+    /// whether its name is on the disk. It isn't if the parent folder can't be synced: because it may not be read, because
+    /// the file system can't sync folders, or because the disk is full.
     pub fn make(rt: &R, path: &str) -> io::Result<bool> {
         if path.is_empty() {
             return Err(io::Error::from(io::ErrorKind::NotFound));
@@ -134,13 +135,13 @@ impl<'a, R: Files + AllocGlobal> Folder<'a, R> {
         }
     }
 
-    /// The path of the file by which the folder of a path is locked.
+    /// The path of the lock file of the folder at a path.
     pub fn lock_path(rt: &R, path: &str) -> Result<String, AllocError> {
         path_of(rt.alloc(), path, LOCK)
     }
 
-    /// Opens the folder of this path and the file by which it is locked, and has both for itself; nothing where another process
-    /// has one. Of some file systems folders can't be had: then the file alone is.
+    /// Opens the folder at this path and its lock file, and locks both; nothing if another process has locked one of them.
+    /// Some file systems can't lock folders: then only the file is locked.
     pub fn lock(rt: &'a R, path: &'a str) -> io::Result<Option<Folder<'a, R>>>
     where
         R::File: Locking,
@@ -211,14 +212,14 @@ impl<'a, R: Files + AllocGlobal> Folder<'a, R> {
         listing_of(self.rt.alloc(), &mut dir)
     }
 
-    /// The path of the file that begins behind a line, as it is told.
+    /// The path of the file that begins after a line, as it is printed.
     pub fn span_path(&self, number: u64) -> Result<String, AllocError> {
         let alloc = self.rt.alloc();
         let name = span_name(alloc, number)?;
         path_of(alloc, self.path, &name)
     }
 
-    /// All octets of the file that begins behind a line; `InvalidInput` where it is none.
+    /// All octets of the file that begins after a line; `InvalidInput` if it isn't a file.
     pub fn read_span(&self, number: u64) -> io::Result<Vec<u8>>
         ensures read { IfOk result (λ octets. IsRead R.File.remaining octets.items) }
     {

@@ -1,9 +1,9 @@
-//! A journal that is written.
-ghost use Rattle.std.specs.Prelude.{◌≡◌, ◌≢◌, ◌↔◌, ◌≤◌, ◌+◌, ◌-◌, ◌^◌, ◌∷◌, ◌++◌, [], List, ℕ, length, min, IsTrue, Err, OnOk, OnErr, IfOk, IfSome, IfNone};
+//! A journal, open for writing.
+ghost use Rattle.std.specs.Prelude.{◌≡◌, ◌≢◌, ◌↔◌, ◌≤◌, ◌+◌, ◌-◌, ◌^◌, ◌∷◌, ◌++◌, [], List, ℕ, length, min, IsTrue, Ok, Err, None, OnOk, OnErr, IfOk, IfSome, IfNone};
 ghost use Rattle.std.specs.Io.KnownBytes.{Appends};
 ghost use Rattle.journal_records.specs.Records.{record_text};
 ghost use Rattle.journal_files.specs.declared.journal.BeginFault.TheVariants.{NotBegun};
-ghost use Rattle.journal_files.specs.Journals.{file_of, waiting_of, last_of, spans_of, lines_of, octets_of, most_waiting, long, keep_of, begun, IsHanded, SameFiles, AreKept, OldestGo};
+ghost use Rattle.journal_files.specs.Journals.{file_of, waiting_of, last_of, spans_of, lines_of, octets_of, most_waiting, long, keep_of, begun, IsHanded, SameFiles, AreKept, MayGo, OldestGo};
 
 use crate::folder::{Folder, is_moved, is_want_of_room};
 use journal_records::{FIRST_LINE, append_record};
@@ -12,12 +12,12 @@ use std::fs::OpenFile;
 use std::io::{self, Write};
 use std::rt::Files;
 
-/// Why no file was begun.
+/// Why no new file was begun.
 #[derive(Clone, Copy, Debug)]
 pub enum BeginFault {
-    /// It couldn't be written. The one that was written goes on.
+    /// It couldn't be written. The file before it is still written.
     NotBegun(io::Error),
-    /// It may be there or not, or another folder stands where it should be. Neither may be written any more.
+    /// Whether it is there isn't known, or another folder has the folder's path. Neither file may be written any more.
     Unknown(io::Error),
 }
 
@@ -39,22 +39,22 @@ fn put_down<F: Write + OpenFile>(file: &mut F, waiting: &mut Vec<u8>) -> io::Res
     Ok(())
 }
 
-/// A journal's files, of which the last is written. A record waits until it is put on the disk together with others.
+/// A journal's files. The last one is open for writing. A record waits until it is put on the disk together with others.
 #[derive(Drop)]
 pub struct Journal<'a, R: Files + AllocGlobal> {
     folder: Folder<'a, R>,
     file: R::File,
-    /// Behind which lines its files begin, in their order.
+    /// The lines after which its files begin, in order.
     spans: Vec<u64>,
-    /// How many files stay.
+    /// How many files are kept.
     keep: Option<usize>,
     waiting: Vec<u8>,
     last: u64,
-    /// Behind which line they are counted.
+    /// The line after which lines are counted.
     counted_from: u64,
-    /// How many octets were noted since then, with those that the file had before.
+    /// How many octets were noted since then, plus those that the file had before.
     octets: u64,
-    /// Why the last file of a controller before wasn't written anew.
+    /// Why the last file of the controller before wasn't rewritten.
     unroomed: Option<io::Error>,
 }
 
@@ -72,7 +72,7 @@ fn write_anew<R: Files + AllocGlobal>(
 }
 
 impl<'a, R: Files + AllocGlobal> Journal<'a, R> {
-    /// Begins a journal in a folder that has none: its first file begins behind no line, with this head.
+    /// Begins a journal in a folder that has none. Its first file begins after line 0, with this head.
     pub fn begin(
         alloc: Global,
         folder: Folder<'a, R>,
@@ -85,6 +85,7 @@ impl<'a, R: Files + AllocGlobal> Journal<'a, R> {
         ensures waiting { IfOk result (λ j. waiting_of j ≡ []) }
         ensures lines { IfOk result (λ j. lines_of j ≡ 0) }
         ensures octets { IfOk result (λ j. octets_of j ≡ length (begun 0 head.now)) }
+        ensures keep { IfOk result (λ j. keep_of j ≡ keep) }
     {
         let octets = begun_octets(alloc, 0, head)?;
         let mut spans = Vec::new(alloc);
@@ -103,11 +104,11 @@ impl<'a, R: Files + AllocGlobal> Journal<'a, R> {
         })
     }
 
-    /// Goes on with the last file of a journal, which begins with these octets, and whose last record has this number.
+    /// Continues the last file of a journal. The file begins with these octets, and its last record has this number.
     ///
-    /// The file is written anew, and takes the place of the old one as a whole: what can be read of that may be in memory
-    /// alone, where the controller before couldn't sync it. Where there is no room for that, its octets are written over
-    /// themselves: so they are synced once more, and at each moment those that were on the disk are.
+    /// The file is rewritten, and the new file replaces the old one as a whole. (What can be read of the old one may be in
+    /// memory only, if the controller before couldn't sync it.) If there is no room for that, the old file's octets are
+    /// written over themselves. So they are synced once more, and at each moment the octets that were on the disk are there.
     pub fn go_on(
         alloc: Global,
         folder: Folder<'a, R>,
@@ -121,6 +122,7 @@ impl<'a, R: Files + AllocGlobal> Journal<'a, R> {
         ensures last { IfOk result (λ j. last_of j ≡ last) }
         ensures waiting { IfOk result (λ j. waiting_of j ≡ []) }
         ensures octets { IfOk result (λ j. octets_of j ≡ length octets.now) }
+        ensures keep { IfOk result (λ j. keep_of j ≡ keep) }
     {
         let number = spans.last().copied().unwrap_or(0);
         let (file, unroomed) = match write_anew(&folder, number, octets) {
@@ -143,7 +145,7 @@ impl<'a, R: Files + AllocGlobal> Journal<'a, R> {
         })
     }
 
-    /// What the system said where there was no room to write the last file anew, and it is gone on with as it was.
+    /// The system's error if there was no room to rewrite the last file; the file is continued as it was.
     pub fn unroomed(&self) -> Option<io::Error> {
         self.unroomed
     }
@@ -155,21 +157,21 @@ impl<'a, R: Files + AllocGlobal> Journal<'a, R> {
         self.last
     }
 
-    /// How many lines were noted since the file was begun, or since they were counted anew.
+    /// How many lines were noted since the file was begun, or since [`Journal::count_anew`].
     pub fn lines(&self) -> u64
         ensures { result ≡ lines_of self.now }
     {
         self.last.saturating_sub(self.counted_from)
     }
 
-    /// Whether the file has so many octets that the next should be begun.
+    /// Whether the file is long enough for the next one to be begun.
     pub fn is_long(&self) -> bool
         ensures { IsTrue result ↔ (long ≤ octets_of self.now) }
     {
         self.octets >= LONG
     }
 
-    /// Counts the lines and octets anew that are noted.
+    /// Counts noted lines and octets from 0 again.
     pub fn count_anew(&mut self)
         ensures lines { lines_of self.new ≡ 0 }
         ensures octets { octets_of self.new ≡ 0 }
@@ -181,14 +183,14 @@ impl<'a, R: Files + AllocGlobal> Journal<'a, R> {
         self.octets = 0;
     }
 
-    /// Whether so much waits that it should be put on the disk.
+    /// Whether enough waits to be put on the disk.
     pub fn is_full(&self) -> bool
         ensures { IsTrue result ↔ (most_waiting ≤ length (waiting_of self.now)) }
     {
         self.waiting.len() >= MOST_WAITING
     }
 
-    /// Notes what came of the next line. It waits. Where memory is refused nothing is noted.
+    /// Notes what came of the next line. The record waits. If memory is refused, nothing is noted.
     pub fn note(&mut self, body: &[u8]) -> Result<(), AllocError>
         ensures noted { OnOk result (waiting_of self.new ≡
             waiting_of self.old ++ record_text (last_of self.new) body.now) }
@@ -208,7 +210,8 @@ impl<'a, R: Files + AllocGlobal> Journal<'a, R> {
         Ok(())
     }
 
-    /// Puts what waits on the disk. After a fault nothing more may be written: how much of it is on the disk isn't known.
+    /// Puts what waits on the disk. After an error nothing more may be written, because it isn't known how much is on the
+    /// disk.
     pub fn put_down(&mut self) -> io::Result<()>
         ensures written { OnOk result (Appends (R.File.contents (file_of self.old))
             (R.File.contents (file_of self.new)) (waiting_of self.old)) }
@@ -216,6 +219,7 @@ impl<'a, R: Files + AllocGlobal> Journal<'a, R> {
         ensures kept { OnErr result (waiting_of self.new ≡ waiting_of self.old) }
         ensures last { last_of self.new ≡ last_of self.old }
         ensures spans { spans_of self.new ≡ spans_of self.old }
+        ensures keep { keep_of self.new ≡ keep_of self.old }
     {
         if self.waiting.is_empty() {
             return Ok(());
@@ -223,8 +227,9 @@ impl<'a, R: Files + AllocGlobal> Journal<'a, R> {
         put_down(&mut self.file, &mut self.waiting)
     }
 
-    /// Begins a file behind the last line, with this head. All that was noted is on the disk. Of older files those go that
-    /// needn't stay; the answer is the first fault at that. (`Unknown`, too, where another folder stands at the path by then.)
+    /// Begins a file after the last line, with this head. All that was noted is on the disk then. Older files that needn't
+    /// be kept are removed; the answer is the first error of that. (`Unknown` also if another folder has the folder's path
+    /// by then.)
     pub fn begin_span(
         &mut self,
         alloc: Global,
@@ -232,7 +237,10 @@ impl<'a, R: Files + AllocGlobal> Journal<'a, R> {
     ) -> Result<Option<io::Error>, BeginFault>
         ensures file { OnOk result (IsHanded R.File.contents (begun (last_of self.old) head.now) (file_of self.new)) }
         ensures octets { OnOk result (octets_of self.new ≡ length (begun (last_of self.old) head.now)) }
-        ensures spans { OnOk result (OldestGo (spans_of self.old ++ last_of self.old ∷ []) (spans_of self.new)) }
+        ensures spans { OnOk result (OldestGo (keep_of self.old)
+            (spans_of self.old ++ last_of self.old ∷ []) (spans_of self.new)) }
+        ensures few { result ≡ Ok None → AreKept (keep_of self.new) (spans_of self.new) }
+        ensures keep { keep_of self.new ≡ keep_of self.old }
         ensures kept { (error : _) → result ≡ Err (NotBegun error) → SameFiles self.old self.new }
         ensures last { last_of self.new ≡ last_of self.old }
         ensures waiting { waiting_of self.new ≡ waiting_of self.old }
@@ -260,7 +268,8 @@ impl<'a, R: Files + AllocGlobal> Journal<'a, R> {
 
     /// The oldest file, where it needn't stay; never the one that is written.
     fn spare(&self) -> Option<u64>
-        ensures spare { IfSome result (λ number. (rest : List ℕ) × (spans_of self.now ≡ number ∷ rest) × (rest ≢ [])) }
+        ensures spare { IfSome result (λ number. (rest : List ℕ) × (spans_of self.now ≡ number ∷ rest)
+            × (rest ≢ []) × MayGo (keep_of self.now) (number ∷ []) rest) }
         ensures none { IfNone result (AreKept (keep_of self.now) (spans_of self.now)) }
     {
         let keep = self.keep?;
@@ -272,7 +281,8 @@ impl<'a, R: Files + AllocGlobal> Journal<'a, R> {
 
     /// Removes the files that needn't stay, the oldest first, up to the first that can't be.
     fn remove_old(&mut self) -> Option<io::Error>
-        ensures spans { OldestGo (spans_of self.old) (spans_of self.new) }
+        ensures spans { OldestGo (keep_of self.old) (spans_of self.old) (spans_of self.new) }
+        ensures keep { keep_of self.new ≡ keep_of self.old }
         ensures kept { IfNone result (AreKept (keep_of self.new) (spans_of self.new)) }
         ensures file { file_of self.new ≡ file_of self.old }
         ensures octets { octets_of self.new ≡ octets_of self.old }

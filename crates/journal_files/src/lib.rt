@@ -1,7 +1,7 @@
-//! The files of a journal in its folder: the folder, which is locked (`folder`), which files are there (`listing`), and one that is
-//! written (`journal`).
+//! The files of a journal in its folder: the locked folder (`folder`), the list of its files (`listing`), and the journal
+//! that is open for writing (`journal`).
 //!
-//! What a file system does no clause says: clauses say which octets are handed to a file, and that none is forgotten.
+//! No clause says what a file system does. Clauses say which octets are handed to a file, and that none is forgotten.
 #![tactic(auto)]
 
 mod folder;

@@ -12,9 +12,9 @@ use std::str;
 /// What is in the folder of a journal.
 #[derive(Drop)]
 pub struct Listing {
-    /// Behind which lines its files begin, in their order.
+    /// The lines after which its files begin, in order.
     pub spans: Vec<u64>,
-    /// The names of files that aren't the journal's.
+    /// The names of all other files.
     pub others: Vec<String>,
 }
 

@@ -1,14 +1,14 @@
-//! A file, or a folder, that a process has opened.
+//! Locking of a file, or a folder, that a process has opened.
 use std::fs::{File, TryLockError};
 use std::io;
 use std::os::fd::AsRawFd;
 
-/// A file that one process alone can have for itself, until it ends.
+/// A file that only one process at a time can lock, until it ends.
 pub trait Locking {
-    /// Has it, unless another process does. The answer is whether this one has it now.
+    /// Locks it, unless another process has locked it. The answer is whether this process has it now.
     fn hold(&self) -> io::Result<bool>;
 
-    /// The number under which this process has it open, if the system gave it one.
+    /// Its file descriptor in this process, if the system gave it one.
     fn number(&self) -> Option<u32>;
 }
 

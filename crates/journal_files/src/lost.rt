@@ -1,10 +1,10 @@
 //! A journal that can't be written any more.
 use std::io;
 
-/// What a controller does whose journal can't be written any more.
+/// What a controller does when its journal can't be written any more.
 #[derive(Clone, Copy, Debug, PartialEq, Eq)]
 pub enum WhenLost {
-    /// It ends, before anything leaves that isn't in the journal.
+    /// It ends. Nothing is printed that isn't in the journal.
     End,
     /// It goes on without a journal.
     GoOn,
@@ -13,9 +13,9 @@ pub enum WhenLost {
 /// How a journal was lost.
 #[derive(Clone, Copy, Debug)]
 pub enum Lost {
-    /// Its records couldn't be put on the disk.
+    /// Records couldn't be put on the disk.
     Records(io::Error),
-    /// Whether a file was begun isn't known.
+    /// It isn't known whether a file was begun.
     File(io::Error),
 }
 

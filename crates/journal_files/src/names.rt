@@ -41,7 +41,7 @@ pub(crate) fn handle_path<A: Allocator + Copy>(
     format!(in alloc; "/proc/self/fd/{number}")
 }
 
-/// A number with one decimal digit more; nothing where that is none, or the number is too large.
+/// A number with one decimal digit more; nothing if that is none, or the number is too large.
 fn with_digit(number: u64, digit: u8) -> Option<u64>
     ensures { result ≡ with_digit number digit }
 {

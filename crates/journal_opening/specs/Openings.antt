@@ -1,9 +1,9 @@
 -- With which journal and which book a controller goes on. Ours, of no standard. What is read from the disk is an input.
-use Rattle.std.specs.Prelude.{◌≡◌, ◌-◌, ◌++◌, ℕ, List, [], length, slice_get, Option, None, Some}
+use Rattle.std.specs.Prelude.{◌≡◌, ◌-◌, ◌++◌, ℕ, List, [], ◌∷◌, length, slice_get, Option, None, Some}
 use Rattle.cell_table.specs.Site.{SiteView}
 use Rattle.radio_book.specs.State.{State, empty_book}
 use Rattle.journal_files.specs.declared.journal.Journal.{Journal}
-use Rattle.journal_files.specs.Journals.{file_of, last_of, waiting_of, IsHanded, IsRead}
+use Rattle.journal_files.specs.Journals.{file_of, last_of, spans_of, waiting_of, IsHanded, IsRead}
 use Rattle.journal_files.specs.Listings.{IsListed}
 use Rattle.journal_resume.specs.Resume.{IsJournal}
 
@@ -30,11 +30,17 @@ pub record Begins {R F D : Type 0} (contents : F → Option (List ℕ)) (sum : �
 abbrev pub last_span : List ℕ → Option ℕ
 last_span spans = slice_get spans (length spans - 1)
 
+-- behind which lines the files of a journal begin: those with the numbers that a folder has in its names; where it has none, the
+-- one that was begun behind line 0
+abbrev pub spans_by : Option ℕ → List ℕ → List ℕ
+spans_by None spans = 0 ∷ []
+spans_by (Some last) spans = spans
+
 -- Where a folder has a last file, the journal goes on with the octets that were read of it; where it has none, one begins.
 abbrev pub OpensBy : {R F D : Type 0} → (F → Option (List ℕ)) → (F → Option (List ℕ)) → ℕ → SiteView → Option ℕ → Journal R F D → State → Type 0
 OpensBy contents remaining sum site None j b = Begins contents sum site j b
 OpensBy contents remaining sum site (Some number) j b = (octets : List ℕ) × IsRead remaining octets × GoesOn contents sum site number octets j b
 
--- A journal opens so, by the names that its folder gave as it was listed.
+-- A journal opens so, by the names that its folder gave as it was listed, and knows these files.
 abbrev pub Opens : {R F D N : Type 0} → (F → Option (List ℕ)) → (F → Option (List ℕ)) → (N → Option (List ℕ)) → ℕ → SiteView → Journal R F D → State → Type 0
-Opens contents remaining names sum site j b = (spans : List ℕ) × IsListed names spans × OpensBy contents remaining sum site (last_span spans) j b
+Opens contents remaining names sum site j b = (spans : List ℕ) × IsListed names spans × (spans_of j ≡ spans_by (last_span spans) spans) × OpensBy contents remaining sum site (last_span spans) j b

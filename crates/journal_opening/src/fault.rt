@@ -1,4 +1,4 @@
-//! Why no journal is opened, and how that is told.
+//! Why no journal is opened, and how a person is told.
 use screen_text::{Escaped, Reason};
 use std::alloc::AllocError;
 use std::fmt;

@@ -1,4 +1,4 @@
-//! The book of a journal's file that was read.
+//! The book of a journal's file.
 ghost use Rattle.std.specs.Prelude.{◌≢◌, ◌≤◌, ◌↔◌, [], length, drop, IfOk, IsTrue};
 ghost use Rattle.journal_resume.specs.Resume.{IsJournal};
 
@@ -64,7 +64,7 @@ pub(crate) fn say_resumed<E: Write>(found: &Found, path: &str, errors: &mut E) -
     if found.is_cut {
         writeln!(
             errors,
-            "{}: the record behind line {} was cut, and is dropped",
+            "{}: the record after line {} is cut off, and is dropped",
             Escaped(path),
             found.last
         )?;

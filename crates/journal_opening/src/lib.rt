@@ -1,5 +1,5 @@
-//! The journal of a controller, opened (`opening`): with which book it goes on (`found`), what was sent and is told once more
-//! (`told`), and why there is none (`fault`).
+//! Opens the journal of a controller (`opening`): finds the book with which it goes on (`found`), prints once more what was
+//! sent and perhaps not heard (`told`), or says why it is refused (`fault`).
 #![tactic(auto)]
 
 mod fault;

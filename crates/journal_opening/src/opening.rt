@@ -1,7 +1,7 @@
-//! A journal that is opened: gone on with, or begun.
-ghost use Rattle.std.specs.Prelude.{◌≡◌, ℕ, List, IfOk, IfSome};
-ghost use Rattle.journal_files.specs.Journals.{IsRead};
-ghost use Rattle.journal_opening.specs.Openings.{last_span, GoesOn, Begins, OpensBy, Opens};
+//! Opening a journal: it is continued, or begun.
+ghost use Rattle.std.specs.Prelude.{◌≡◌, ◌∷◌, [], ℕ, List, IfOk, IfSome};
+ghost use Rattle.journal_files.specs.Journals.{IsRead, keep_of, spans_of};
+ghost use Rattle.journal_opening.specs.Openings.{last_span, spans_by, GoesOn, Begins, OpensBy, Opens};
 
 use crate::fault::{OpenFault, refuse, refuse_file};
 use crate::found::{Found, found_in, say_resumed};
@@ -15,7 +15,7 @@ use std::io::{self, Write};
 use std::rt::Files;
 use std::sync::Arc;
 
-/// A journal that is opened, and the book with which the controller goes on.
+/// An open journal, and the book with which the controller goes on.
 #[derive(Drop)]
 pub struct Opened<'a, R: Files + AllocGlobal> {
     /// The journal.
@@ -24,14 +24,14 @@ pub struct Opened<'a, R: Files + AllocGlobal> {
     pub book: Book,
 }
 
-/// What is asked of a journal.
+/// The options of a journal.
 #[derive(Clone, Copy, Debug, PartialEq, Eq)]
 pub struct Asked<'a> {
     /// The path of its folder.
     pub folder: &'a str,
-    /// How many of its files stay; all, where no number is asked for.
+    /// How many of its files are kept; all, if no number is given.
     pub keep: Option<usize>,
-    /// The last line that was heard whole: what was sent for later ones is told once more.
+    /// The last line of which everything was heard. What was sent for later lines is printed once more.
     pub heard: Option<u64>,
 }
 
@@ -40,7 +40,7 @@ fn say_others<E: Write>(path: &str, listing: &Listing, errors: &mut E) -> Result
     for name in &listing.others {
         writeln!(
             errors,
-            "{}/{}: not of the journal, and left alone",
+            "{}/{}: not a file of the journal, so it is left alone",
             Escaped(path),
             Escaped(name.as_str())
         )
@@ -49,14 +49,14 @@ fn say_others<E: Write>(path: &str, listing: &Listing, errors: &mut E) -> Result
     Ok(())
 }
 
-/// Tells that the name of a folder in which a journal begins may not be on the disk, where it isn't known to be.
+/// Tells that the name of a folder in which a journal begins may not be on the disk, if it isn't known to be.
 fn say_unsynced<E: Write>(path: &str, is_named: bool, errors: &mut E) -> Result<(), OpenFault> {
     if is_named {
         return Ok(());
     }
     writeln!(
         errors,
-        "{}: the folder above can't be synced: if power fails, this one may be lost",
+        "{}: its parent folder can't be synced: if power fails, this folder may be lost",
         Escaped(path)
     )
     .map_err(|_| OpenFault::Write)
@@ -71,7 +71,7 @@ fn say_unroomed<R: Files + AllocGlobal, E: Write>(
     match journal.unroomed() {
         Some(error) => writeln!(
             errors,
-            "{}: {}; the last file isn't written anew, and goes on as it was",
+            "{}: {}; the last file isn't rewritten; new records are appended to it",
             Escaped(path),
             Reason(&error)
         ),
@@ -101,6 +101,8 @@ fn go_on_with<'a, R: Files + AllocGlobal, W: Write, E: Write>(
 ) -> Result<(Journal<'a, R>, Book), OpenFault>
     ensures goes_on { IfOk result (λ on. GoesOn R.File.contents site_sum site.value
         last.entry.number last.entry.octets.now on.0 on.1) }
+    ensures spans { IfOk result (λ on. spans_of on.0 ≡ spans.items) }
+    ensures keep { IfOk result (λ on. keep_of on.0 ≡ asked.entry.keep) }
 {
     let alloc = rt.alloc();
     let found = found_in(
@@ -143,6 +145,8 @@ fn go_on<'a, R: Files + AllocGlobal, W: Write, E: Write>(
 ) -> Result<(Journal<'a, R>, Book), OpenFault>
     ensures goes_on { IfOk result (λ on. (octets : List ℕ) × IsRead R.File.remaining octets
         × GoesOn R.File.contents site_sum site.value number octets on.0 on.1) }
+    ensures spans { IfOk result (λ on. spans_of on.0 ≡ spans.items) }
+    ensures keep { IfOk result (λ on. keep_of on.0 ≡ asked.entry.keep) }
 {
     let path = folder.span_path(number)?;
     let octets = octets_of(&folder, number, &path, errors)?;
@@ -164,6 +168,8 @@ fn begin<'a, R: Files + AllocGlobal, E: Write>(
     errors: &mut E,
 ) -> Result<(Journal<'a, R>, Book), OpenFault>
     ensures begins { IfOk result (λ on. Begins R.File.contents site_sum site.value on.0 on.1) }
+    ensures spans { IfOk result (λ on. spans_of on.0 ≡ 0 ∷ []) }
+    ensures keep { IfOk result (λ on. keep_of on.0 ≡ asked.entry.keep) }
 {
     if asked.heard.unwrap_or(0) > 0 {
         return Err(refuse(asked.folder, UNHEARD, errors));
@@ -175,7 +181,7 @@ fn begin<'a, R: Files + AllocGlobal, E: Write>(
         Err(HeadFault::NoMemory) => return Err(OpenFault::NoMemory),
         // no events lead from the empty book to itself
         Err(HeadFault::Differs) => {
-            return Err(refuse(asked.folder, "the journal can't be begun", errors));
+            return Err(refuse(asked.folder, "the journal can't be started", errors));
         }
     };
     let journal = Journal::begin(alloc, folder, head.as_bytes(), asked.keep)?;
@@ -237,6 +243,8 @@ fn open_listed<'a, R: Files + AllocGlobal, W: Write, E: Write>(
 ) -> Result<(Journal<'a, R>, Book), OpenFault>
     ensures opens { IfOk result (λ on. OpensBy R.File.contents R.File.remaining site_sum site.value
         (last_span spans.items) on.0 on.1) }
+    ensures spans { IfOk result (λ on. spans_of on.0 ≡ spans_by (last_span spans.items) spans.items) }
+    ensures keep { IfOk result (λ on. keep_of on.0 ≡ asked.entry.keep) }
 {
     match last_of(spans.as_slice()) {
         Some(last) => go_on(rt, folder, asked, spans, last, site, site_sum, out, errors),
@@ -261,6 +269,7 @@ where
     R::File: Locking,
     ensures opens { IfOk result (λ opened. Opens R.File.contents R.File.remaining R.Dir.remaining
         site_sum site.value opened.journal opened.book) }
+    ensures keep { IfOk result (λ opened. keep_of opened.journal ≡ asked.entry.keep) }
 {
     let is_named = make_folder(rt, asked.folder, errors)?;
     let folder = lock_folder(rt, asked.folder, errors)?;
@@ -273,8 +282,8 @@ where
     Ok(Opened { journal, book })
 }
 
-/// Opens the journal of a folder: goes on with the one that is there, or begins one. Nothing where it is refused, as `errors`
-/// then says; no file was changed then.
+/// Opens the journal of a folder: continues the one that is there, or begins one. `None` if it is refused; `errors` then
+/// says why, and no file was changed.
 pub fn open_journal<'a, R: Files + AllocGlobal, W: Write, E: Write>(
     rt: &'a R,
     asked: Asked<'a>,
@@ -287,6 +296,7 @@ where
     R::File: Locking,
     ensures opens { IfOk result (λ found. IfSome found (λ opened. Opens R.File.contents R.File.remaining
         R.Dir.remaining site_sum site.value opened.journal opened.book)) }
+    ensures keep { IfOk result (λ found. IfSome found (λ opened. keep_of opened.journal ≡ asked.entry.keep)) }
 {
     match try_to_open(rt, asked, site, site_sum, out, errors) {
         Ok(opened) => Ok(Some(opened)),

@@ -1,4 +1,4 @@
-//! What was sent for the lines behind the last one that was heard, told once more.
+//! What was sent for the lines after the last one that was heard, printed once more.
 ghost use Rattle.std.specs.Prelude.{IfOk};
 ghost use Rattle.journal_files.specs.Journals.{IsRead};
 
@@ -46,7 +46,7 @@ fn tell_span<R: Files + AllocGlobal, E: Write>(
     if next.is_some() && last_number(records, number) != next {
         return Err(refuse(
             &path,
-            "it doesn't have each line up to the next file once",
+            "it doesn't have each line before the next file exactly once",
             errors,
         ));
     }
@@ -77,7 +77,7 @@ fn told_behind<R: Files + AllocGlobal, E: Write>(
 }
 
 /// Why nothing is told once more of the lines behind one.
-pub(crate) const UNHEARD: &str = "no file has the line that was heard";
+pub(crate) const UNHEARD: &str = "no file has the line that --heard names";
 
 /// Whether the line behind the one that was heard stands in a file that is there no more.
 fn is_gone(spans: &[u64], heard: u64) -> bool {

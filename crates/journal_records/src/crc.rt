@@ -38,7 +38,7 @@ fn after_octet(register: u32, octet: u8) -> u32
     four_shifted(four_shifted(register ^ u32::from(octet)))
 }
 
-/// The check of some octets by IEEE 802.3 (clause 3.2.9): CRC-32.
+/// The CRC-32 of these octets (IEEE 802.3 clause 3.2.9).
 pub fn checksum(octets: &[u8]) -> u32
     ensures { result ≡ spec.checksum octets.now }
 {

@@ -1,4 +1,4 @@
-//! A journal's file: by its first line it is known, with the version of its form.
+//! A journal's file: its first line has its kind and the version of its form.
 ghost use Rattle.std.specs.Prelude.{◌≡◌, ◌↔◌, ◌++◌, Err, IfOk, MatchOption};
 ghost use Rattle.journal_records.specs.Files.{kind, first_line, Begins};
 
@@ -13,11 +13,11 @@ pub const FIRST_LINE: &[u8] = b"gofnild journal 1\n";
 /// Why a file isn't read as a journal.
 #[derive(Clone, Copy, Debug, PartialEq, Eq, Error)]
 pub enum FileFault {
-    /// It doesn't begin as a journal.
-    #[error("the file is no journal")]
+    /// It doesn't begin like a journal.
+    #[error("the file isn't a journal")]
     NotAJournal,
     /// It is a journal of another version.
-    #[error("the file is a journal of a version that isn't known here")]
+    #[error("the file is a journal of an unknown version")]
     UnknownVersion,
 }
 
@@ -33,10 +33,10 @@ fn behind<'a>(front: &[u8], octets: &'a [u8]) -> Option<&'a [u8]>
     if first == front { Some(rest) } else { None }
 }
 
-/// What stands behind the first line of a journal's file.
+/// The octets after the first line of a journal's file.
 ///
-/// `NotAJournal`, exactly where it doesn't begin with the words of a journal; `UnknownVersion`, exactly where it does, and
-/// its first line is another.
+/// `NotAJournal` exactly if the octets don't begin with the words of a journal. `UnknownVersion` exactly if they do, but the
+/// first line is another one.
 pub fn behind_first_line<'a>(octets: &'a [u8]) -> Result<&'a [u8], FileFault>
     ensures line { IfOk result (λ rest. octets.now ≡ first_line ++ rest.now) }
     ensures other { (result ≡ Err FileFault.NotAJournal) ↔ (Begins kind octets.now → ⊥) }

@@ -1,5 +1,5 @@
-//! The records of a journal: what came of each line that a controller was given, with the line's number and with checksums,
-//! so that octets which were cut or changed are known.
+//! The records of a journal: what came of each line that a controller was given, with the line's number, and with checksums
+//! that reveal octets that were cut or changed.
 #![tactic(auto)]
 
 mod crc;

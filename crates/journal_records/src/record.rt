@@ -23,15 +23,15 @@ const SUM: usize = 49;
 /// Why octets don't begin with a record.
 #[derive(Clone, Copy, Debug, PartialEq, Eq, Error)]
 pub enum RecordFault {
-    /// The octets end within the record's head, or before its body does.
+    /// The octets end in the record's head, or before the end of its body.
     #[error("the record is cut")]
     Cut,
-    /// The octets of the head or of the body aren't those that were written.
+    /// Octets of the head or of the body were changed.
     #[error("the record is damaged")]
     Damaged,
 }
 
-/// A record, and what stands behind it.
+/// A record, and what follows it.
 #[derive(Clone, Copy)]
 pub struct Record<'a> {
     /// The number of the line that was taken.
@@ -91,7 +91,7 @@ fn head_of(head: Head) -> ArrayVec<u8, HEAD>
     text
 }
 
-/// Appends a record to what is to be written. Where memory is refused, that is as it was.
+/// Appends a record to a list. If memory is refused, the list is as it was.
 pub fn append_record<A: Allocator>(
     out: &mut Vec<u8, A>,
     number: u64,
@@ -173,9 +173,9 @@ fn body_at<'a>(head: Head, behind: &'a [u8]) -> Result<Record<'a>, RecordFault>
     })
 }
 
-/// The record with which octets begin.
+/// The record at the beginning of the octets.
 ///
-/// `Cut`, exactly where the octets end within the record's head, or end before its body does. `Damaged`: they begin with no
+/// `Cut` exactly if the octets end in the record's head, or before the end of its body. `Damaged`: they don't begin with a
 /// record, and aren't cut.
 pub fn first_record<'a>(octets: &'a [u8]) -> Result<Record<'a>, RecordFault>
     ensures read { IfOk result (λ r. BeginsWith octets.now r.number r.body.now r.behind.now) }

@@ -1,4 +1,4 @@
-//! Where a file with a damaged record can be cut, so that a whole journal is left.
+//! Where a file with a damaged record can be cut so that a whole journal is left.
 use crate::wholes::behind_records;
 use journal_records::{RecordFault, behind_first_line, first_record};
 use std::fmt;
@@ -6,14 +6,14 @@ use std::fmt;
 /// By this each record begins.
 const WORD: &[u8] = b"record ";
 
-/// A record that is damaged, and what a cut in front of it leaves and gives up.
+/// A damaged record, and what a cut before it keeps and loses.
 #[derive(Clone, Copy, Debug, PartialEq, Eq)]
 pub struct Damage {
-    /// The number that the record should have. The records from this on are given up.
+    /// The number that the record should have. The cut loses the records from this number on.
     pub first: u64,
-    /// How many octets stand in front of it: these are a whole journal.
+    /// How many octets come before it. These are a whole journal.
     pub octets: usize,
-    /// The last record that is whole of those that are given up, if one is.
+    /// The last whole record of those that are lost, if one is whole.
     pub last: Option<u64>,
 }
 
@@ -22,12 +22,12 @@ impl fmt::Display for Damage {
         let octets = self.octets;
         write!(
             f,
-            "record {} is damaged; a cut behind octet {octets} (truncate -s {octets}) leaves a whole journal, and gives up \
-             the records from {} on, of which ",
+            "record {} is damaged; truncate -s {octets} cuts the file after octet {octets}, and leaves a whole journal without \
+             the records from {} on; of these ",
             self.first, self.first
         )?;
         match self.last {
-            Some(last) => write!(f, "{last} is the last that is whole"),
+            Some(last) => write!(f, "the last whole one is {last}"),
             None => f.write_str("none is whole"),
         }
     }
@@ -58,7 +58,7 @@ fn last_whole(octets: &[u8], least: u64) -> Option<u64> {
     last
 }
 
-/// The damage of a journal's file whose first record that can't be taken has this number; nothing where the octets are no journal.
+/// The damage of a journal's file, whose first unusable record has this number; nothing if the octets aren't a journal.
 pub fn damage_at(octets: &[u8], number: u64) -> Option<Damage> {
     let Ok(records) = behind_first_line(octets) else {
         return None;

@@ -1,4 +1,4 @@
-//! The head of a journal's file that is begun: of which site it is, and the events that lead to the book with which it begins.
+//! The head of a new file of a journal: its site, and events that lead to the book with which the file begins.
 ghost use Rattle.std.specs.Prelude.{◌≡◌, ◌≢◌, ◌⊎◌, ◌++◌, ◌↔◌, IsTrue, string_bytes, Err, IfOk};
 ghost use Rattle.radio_book.specs.State.{empty_book};
 ghost use Rattle.radio_book.specs.Run.{run_book};
@@ -18,7 +18,7 @@ use trace_entries::replies::ReplyText;
 /// Why no head is made for a book.
 #[derive(Clone, Copy, Debug, PartialEq, Eq, Error)]
 pub enum HeadFault {
-    /// The events that are known to lead to a book lead to another one.
+    /// The events that should lead to the book lead to another one.
     #[error("no events are known that lead to the book")]
     Differs,
     /// Memory was refused.
@@ -124,11 +124,11 @@ fn leads_to<A: Allocator + Copy>(alloc: A, trace: &str, book: &Book<A>) -> Resul
     Ok(same_replies && after == *book)
 }
 
-/// The body of the first record of a file that begins with a book: the site's checksum, and a trace that leads from the empty
-/// book of the site to the book: the events that are known to lead there, each with its reply.
+/// The body of the first record of a file that begins with a book: the site's checksum, and a trace from the empty book of
+/// the site to this book, each event with its reply.
 ///
-/// What is answered was read back, and asked once more. `Differs` only where these events lead to another book, or the lines,
-/// read back, do.
+/// The answer was read back, and its events were asked once more. `Differs` occurs only if these events, or the lines read
+/// back, lead to another book.
 pub fn head_body<A: Allocator + Copy>(
     alloc: A,
     site_sum: u32,

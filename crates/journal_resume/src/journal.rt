@@ -83,12 +83,12 @@ fn book_of_head<A: Allocator + Copy>(
     Ok(book)
 }
 
-/// The book of a journal's file, which has this number in its name: that of the events of its head and of all its records, one
-/// after another, from the empty book of the site on. The book's replies are those that the file has. A record at the end that
-/// was cut is left, with zeros behind it.
+/// The book of a journal's file, which has this number in its name: the events of its head and of all its records lead to
+/// it, in order, from the empty book of the site. The book's replies are those in the file. A record at the end that was
+/// cut, with zeros after it, is left over.
 ///
-/// It is refused only for the reason that the fault says, which the file then has. A fault has the number of the first record
-/// that can't be taken: all before it can.
+/// If it is refused, the file has the fault that is returned. A fault has the number of the first record that can't be used;
+/// all records before it can.
 pub fn resume<'a, A: Allocator + Copy>(
     alloc: A,
     site: Arc<Site<A>, A>,

@@ -1,6 +1,6 @@
-//! The book of a journal's file: that to which the events of its head and of its records lead; the head of a file that is
-//! begun; all that a file has but a record that was cut (`wholes`), and what it says was sent (`sent`); and where one that is
-//! damaged can be cut (`cuts`).
+//! Reads a journal's file: the book to which the events of its head and of its records lead; all of it but a record that was
+//! cut (`wholes`); what it says was sent (`sent`); and where a damaged file can be cut (`cuts`). Makes the head of a new
+//! file.
 #![tactic(auto)]
 
 mod cuts;

@@ -1,4 +1,4 @@
-//! The book to which records lead, one behind another.
+//! The book to which a sequence of records leads.
 ghost use Rattle.std.specs.Prelude.{◌≡◌, ◌+◌, None, OnOk, IfOk, IfErr, MatchOption};
 ghost use Rattle.radio_book.specs.State.{State};
 ghost use Rattle.radio_book.specs.Run.{run_book, run_replies};
@@ -17,31 +17,31 @@ use std::str;
 use thiserror::Error;
 use trace_entries::entries::first_unreadable;
 
-/// Why a journal's records lead to no book. The number is that of the record in question, or of the one that should stand there.
+/// Why a journal's records lead to no book. The number is that of the record, or of the record that should be there.
 #[derive(Clone, Copy, Debug, PartialEq, Eq, Error)]
 pub enum ResumeFault {
-    /// The file is none of a journal of this version.
+    /// The file isn't a journal of this version.
     #[error("{0}")]
     File(FileFault),
-    /// It begins with no record.
+    /// It doesn't begin with a record.
     #[error("the head of the journal is damaged")]
     NoHead,
-    /// Its head has another number than the file's name.
-    #[error("the head of the journal has another number than the file's name")]
+    /// The number in its head isn't that in the file's name.
+    #[error("the number in the journal's head isn't that of the file's name")]
     Renamed,
-    /// It is of a site with another checksum.
-    #[error("the journal is of another site")]
+    /// It belongs to a site with another checksum.
+    #[error("the journal belongs to another site")]
     AnotherSite,
-    /// Octets were changed: there is no record, and it isn't one that was cut.
+    /// Octets were changed: this is neither a record nor a record that was cut.
     #[error("record {0} is damaged")]
     Damaged(u64),
     /// The record has another number.
-    #[error("record {0} isn't the next")]
+    #[error("record {0} isn't the next one")]
     Misplaced(u64),
-    /// A line of the record says no event, though it begins as one.
+    /// A line of the record begins like an event, but isn't one.
     #[error("record {0} can't be read")]
     Unreadable(u64),
-    /// The book gives another reply than the record has.
+    /// The book's reply isn't the one in the record.
     #[error("record {0} has another reply than the book gives")]
     OtherReply(u64),
     /// Memory was refused.
@@ -65,9 +65,9 @@ impl From<AllocError> for ResumeFault {
 pub struct Resumed<'a, A: Allocator = Global> {
     /// The book of the records' events.
     pub book: Book<A>,
-    /// The number of the last record; where there is none, that of the head.
+    /// The number of the last record; if there is none, that of the head.
     pub last: u64,
-    /// What stands behind the last record: nothing, or one that was cut, with zeros behind it.
+    /// What follows the last record: nothing, or a record that was cut, with zeros after it.
     pub left: &'a [u8],
 }
 

@@ -1,4 +1,4 @@
-//! What was sent for the lines behind one, told once more.
+//! What was sent for the lines after a line, printed once more.
 ghost use Rattle.std.specs.Prelude.{◌≡◌, ◌↔◌, IsTrue, List, ℕ, OnOk};
 ghost use Rattle.std.specs.Io.KnownBytes.{Appends};
 ghost use Rattle.journal_resume.specs.Resume.{Numbered};
@@ -58,8 +58,8 @@ fn tell_unheard<W: Write>(out: &mut W, number: u64, body: &[u8], heard: u64) -> 
     }
 }
 
-/// Tells once more what was sent for the lines behind the one of this number, which was the last that was heard whole: each
-/// message behind the number of its line. The octets are the records of a journal's file; they are read as far as they are
+/// Prints once more what was sent for the lines after line `heard`, which was the last of which everything was heard. Each
+/// message follows the number of its line. The octets are records of a journal's file; they are read as far as they are
 /// records.
 pub fn tell_sent<W: Write>(out: &mut W, octets: &[u8], heard: u64) -> io::Result<()>
     ensures told { OnOk result ((records : List Numbered) × (left : List ℕ) × AreAll records octets.now left
@@ -85,8 +85,7 @@ fn stay_numbered(are_numbered: bool, first: u64, last: Option<u64>, number: u64)
         }
 }
 
-/// The number of the last of some octets' records, if the first has the number `first`, and each other one that behind the one
-/// before.
+/// The number of the last record in the octets, if the numbers begin with `first` and go up by 1.
 pub fn last_number(octets: &[u8], first: u64) -> Option<u64>
     ensures last { (records : List Numbered) × (left : List ℕ) × AreAll records octets.now left
         × IsLast first records result }

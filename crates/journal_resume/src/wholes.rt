@@ -7,14 +7,14 @@ use crate::ends::is_end;
 use journal_records::{FileFault, behind_first_line, first_record};
 use thiserror::Error;
 
-/// Why a file isn't read as a journal to its end.
+/// Why a file can't be read as a journal to its end.
 #[derive(Clone, Copy, Debug, PartialEq, Eq, Error)]
 pub enum WholeFault {
-    /// It isn't one of this version.
+    /// It isn't a journal of this version.
     #[error("{0}")]
     File(FileFault),
-    /// It has no record of a place of its octets, counted from 0, and none that was cut.
-    #[error("octet {0}: the record is damaged")]
+    /// At this octet, counted from 0, there is neither a record nor a record that was cut.
+    #[error("the record at octet {0} is damaged")]
     Damaged(usize),
 }
 
@@ -29,9 +29,10 @@ pub(crate) fn behind_records(octets: &[u8]) -> &[u8]
     left
 }
 
-/// The octets of a journal's file without a record at the end that was cut. Each record before it has its checksums.
+/// The octets of a journal's file without a record at the end that was cut. The checksums of each record before it are
+/// right.
 ///
-/// It is refused only for the reason that the fault says.
+/// If it is refused, the file has the fault that is returned.
 pub fn whole_octets(octets: &[u8]) -> Result<&[u8], WholeFault>
     ensures whole { IfOk result (λ whole. IsWhole octets.now whole.now) }
     ensures reason { IfErr result (λ fault. IsWholeReason fault octets.now) }
@@ -49,9 +50,9 @@ pub fn whole_octets(octets: &[u8]) -> Result<&[u8], WholeFault>
     }
 }
 
-/// The octets of a trace, which may be a journal's file: of such a file all but a record at its end that was cut.
+/// The octets of a trace, which may be a journal's file. Of such a file, a record at its end that was cut is left out.
 ///
-/// A journal's file is refused only for the reason that the fault says; nothing else is refused.
+/// Only a journal's file can be refused; it has the fault that is returned.
 pub fn trace_octets(octets: &[u8]) -> Result<&[u8], WholeFault>
     ensures trace { IfOk result (λ trace. IsTraceOf octets.now trace.now) }
     ensures reason { IfErr result (λ fault. IsWholeReason fault octets.now) }

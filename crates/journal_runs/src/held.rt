@@ -2,7 +2,7 @@
 use std::alloc::Global;
 use std::io::{self, Write};
 
-/// A writer that holds back what it is given, until it is flushed.
+/// A writer that holds back what it is given until it is flushed.
 #[derive(Drop)]
 pub struct Held<'a, W: Write> {
     out: &'a mut W,
@@ -11,7 +11,7 @@ pub struct Held<'a, W: Write> {
 }
 
 impl<'a, W: Write> Held<'a, W> {
-    /// One that writes to `out`.
+    /// A writer that holds back what is for `out`.
     pub fn new(alloc: Global, out: &'a mut W) -> Held<'a, W> {
         Held {
             out,
@@ -20,7 +20,7 @@ impl<'a, W: Write> Held<'a, W> {
         }
     }
 
-    /// Whether memory was refused for what should be held back.
+    /// Whether memory was refused for output that should be held back.
     pub fn lacks_memory(&self) -> bool {
         self.lacks_memory
     }

@@ -1,4 +1,9 @@
-//! A listener that notes what it hears in a journal, and has another listener hear it, too.
+//! A listener that notes what it hears in a journal, and passes it on to another listener.
+ghost use Rattle.std.specs.Prelude.{◌≡◌, ◌++◌, [], Err, Some, None, OnOk};
+ghost use Rattle.std.specs.Io.KnownBytes.{Appends};
+ghost use Rattle.journal_records.specs.Records.{record_text};
+ghost use Rattle.journal_files.specs.Journals.{file_of, last_of, waiting_of};
+
 use cell_table::SiteFault;
 use exchange::Outbound;
 use journal_files::{BeginFault, Journal, Lost, WhenLost};
@@ -6,7 +11,7 @@ use journal_resume::{HeadFault, head_body};
 use radio_book::book::Book;
 use run_listeners::{LabFault, Listener, LiveListener, Printing, Turn, Unmet};
 use screen_text::{Escaped, Reason};
-use std::alloc::{Allocator, Global};
+use std::alloc::{AllocError, Allocator, Global};
 use std::io::{self, Write};
 use std::rt::Files;
 use trace_text::trace::Mark;
@@ -20,8 +25,8 @@ enum Phase {
     Ended,
 }
 
-/// A listener that notes the trace of each line in a journal. What the inner listener prints has to be held back until it is
-/// flushed: that comes once the line is on the disk, together with the lines that were there already.
+/// A listener that notes the trace of each line in a journal. The inner listener's output has to be held back until it is
+/// flushed. It is flushed once the line is on the disk, together with the lines that had arrived already.
 #[derive(Drop)]
 pub struct Journaled<'a, L, R: Files + AllocGlobal> {
     inner: L,
@@ -38,8 +43,8 @@ pub struct Journaled<'a, L, R: Files + AllocGlobal> {
 }
 
 impl<'a, L, R: Files + AllocGlobal> Journaled<'a, L, R> {
-    /// One that notes what it hears in a journal, of a folder with this path, and of a site with this checksum. A file ends
-    /// behind so many lines, or behind the line with which it is long, if the next one can be begun.
+    /// A listener that notes what it hears in a journal, whose folder has this path, and whose site has this checksum. A
+    /// file ends after this number of lines, or after the line with which it is long, if the next file can be begun.
     pub fn new(
         alloc: Global,
         inner: L,
@@ -64,7 +69,8 @@ impl<'a, L, R: Files + AllocGlobal> Journaled<'a, L, R> {
         }
     }
 
-    /// The inner listener; how the journal was lost, if it was; and whether memory was refused for a line that can't be read.
+    /// Returns the inner listener; how the journal was lost, if it was; and whether memory was refused for a line that can't
+    /// be read.
     pub fn into_parts(self) -> (L, Option<Lost>, bool) {
         let Journaled {
             inner,
@@ -82,14 +88,28 @@ impl<'a, L, R: Files + AllocGlobal> Journaled<'a, L, R> {
         (inner, lost, lacks_memory)
     }
 
-    /// Notes what came of a line.
-    fn note(&mut self) -> Result<(), LabFault> {
+    /// Notes what came of a line, unless the journal is lost.
+    fn note_body(&mut self) -> Result<(), AllocError>
+        ensures noted { OnOk result (self.old.lost ≡ None → waiting_of self.new.journal ≡
+            waiting_of self.old.journal ++ record_text (last_of self.new.journal) self.old.body.items) }
+    {
+        match self.lost {
+            Some(_) => Ok(()),
+            None => self.journal.note(&self.body),
+        }
+    }
+
+    /// Notes what came of a line, up to the end of the lines. Nothing of it stands in the next record.
+    fn note(&mut self) -> Result<(), LabFault>
+        ensures noted { OnOk result (self.old.phase ≡ Phase.Notes → self.old.lost ≡ None →
+            waiting_of self.new.journal ≡ waiting_of self.old.journal
+            ++ record_text (last_of self.new.journal) self.old.body.items) }
+        ensures next { OnOk result (self.old.phase ≡ Phase.Notes → self.new.body.items ≡ []) }
+    {
         match self.phase {
             Phase::Ended => Ok(()),
             Phase::Notes => {
-                if self.lost.is_none() {
-                    self.journal.note(&self.body)?;
-                }
+                self.note_body()?;
                 self.body.clear();
                 Ok(())
             }
@@ -97,7 +117,10 @@ impl<'a, L, R: Files + AllocGlobal> Journaled<'a, L, R> {
     }
 
     /// The journal is lost: it ends here, or the controller goes on without it, as `errors` is told.
-    fn lose<E: Write>(&mut self, lost: Lost, errors: &mut E) -> Result<(), LabFault> {
+    fn lose<E: Write>(&mut self, lost: Lost, errors: &mut E) -> Result<(), LabFault>
+        ensures lost { self.new.lost ≡ Some lost }
+        ensures ends { self.old.when_lost ≡ WhenLost.End → result ≡ Err LabFault.Write }
+    {
         self.lost = Some(lost);
         match self.when_lost {
             WhenLost::End => Err(LabFault::Write),
@@ -113,7 +136,11 @@ impl<'a, L, R: Files + AllocGlobal> Journaled<'a, L, R> {
     }
 
     /// Has all that was noted on the disk.
-    fn put_down<E: Write>(&mut self, errors: &mut E) -> Result<(), LabFault> {
+    fn put_down<E: Write>(&mut self, errors: &mut E) -> Result<(), LabFault>
+        ensures written { OnOk result (self.new.lost ≡ None → Appends (R.File.contents (file_of self.old.journal))
+            (R.File.contents (file_of self.new.journal)) (waiting_of self.old.journal)) }
+        ensures none { OnOk result (self.new.lost ≡ None → waiting_of self.new.journal ≡ []) }
+    {
         if self.lost.is_some() {
             return Ok(());
         }
@@ -127,7 +154,7 @@ impl<'a, L, R: Files + AllocGlobal> Journaled<'a, L, R> {
     fn say_not_begun<E: Write>(&self, error: io::Error, errors: &mut E) -> io::Result<()> {
         writeln!(
             errors,
-            "{}: {}; no file is begun, and the last one goes on",
+            "{}: {}; no new file is begun; records are appended to the last one",
             Escaped(self.path),
             Reason(&error)
         )
@@ -139,7 +166,7 @@ impl<'a, L, R: Files + AllocGlobal> Journaled<'a, L, R> {
             Ok(None) => Ok(()),
             Ok(Some(error)) => Ok(writeln!(
                 errors,
-                "{}: {}; an old file stays",
+                "{}: {}; an old file isn't removed",
                 Escaped(self.path),
                 Reason(&error)
             )?),
@@ -234,7 +261,7 @@ impl<L: LiveListener<Global>, R: Files + AllocGlobal> LiveListener<Global> for J
             Err(HeadFault::NoMemory) => Err(LabFault::NoMemory),
             Err(HeadFault::Differs) => Ok(writeln!(
                 errors,
-                "{}: {}; no file is begun, and the last one goes on",
+                "{}: {}; no new file is begun; records are appended to the last one",
                 Escaped(self.path),
                 HeadFault::Differs
             )?),

@@ -1,5 +1,5 @@
-//! A controller that notes what came of each line in a journal, before anything of it leaves (`journaled`); and the output that is
-//! held back until then (`held`).
+//! A controller that notes what came of each line in a journal before any of it is printed (`journaled`), and the output
+//! that is held back until then (`held`).
 #![tactic(auto)]
 
 mod held;

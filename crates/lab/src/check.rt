@@ -1,7 +1,7 @@
-//! A site as it was read, and what is surely meant otherwise.
+//! A site as it was read, and warnings about it.
 //!
-//! No clause says what is printed; which site a text describes is said in `cell_table`.
-use crate::site_files::{SitePaths, say_reasons, site_texts};
+//! No clause says what is printed. `cell_table` says which site a text describes.
+use crate::site_files::{SitePaths, in_files, say_reasons, site_texts};
 use cell_table::Site;
 use lab_runs::run::{Sites, Status, read_sites, refuse_site};
 use run_listeners::{LabFault, Printing};
@@ -23,7 +23,7 @@ fn print_warnings_of<W: Write>(
     Ok(print_warnings(site, &Value::Table(document), out)?)
 }
 
-/// Prints the cells of a site, its warnings, and those beside its peer's, where there is one.
+/// Prints the cells of a site, its warnings, and those beside its peer's, if there is one.
 fn print_sites<W: Write>(
     alloc: Global,
     sites: &Sites<Global>,
@@ -38,9 +38,9 @@ fn print_sites<W: Write>(
     Ok(())
 }
 
-/// Reads the site of a file and prints its cells, and what is allowed in the file and surely meant otherwise
-/// ([`print_cells`], [`print_warnings`]); where a peer's is named, which of its outside cells aren't as that has them, too
-/// ([`print_peer_warnings`]). Files and sites are refused as [`run_files`](crate::files::run_files) does.
+/// Reads the site of a file, and prints its cells and warnings ([`print_cells`], [`print_warnings`]). If a peer's site is
+/// named, it also prints which outside cells the peer doesn't have as the site says ([`print_peer_warnings`]). Files and
+/// sites are refused as by [`run_files`](crate::files::run_files).
 pub fn check_file<R: Files + AllocGlobal, W: Write, E: Write>(
     rt: &R,
     paths: SitePaths<'_>,
@@ -48,7 +48,8 @@ pub fn check_file<R: Files + AllocGlobal, W: Write, E: Write>(
     errors: &mut E,
 ) -> Result<Status, LabFault> {
     let alloc = rt.alloc();
-    let Some(texts) = site_texts(rt, paths, out, errors)? else {
+    let sources = in_files(paths);
+    let Some(texts) = site_texts(rt, sources, out, errors)? else {
         return Ok(Status::Refused);
     };
     match read_sites(alloc, alloc, texts.first(), texts.peer()) {
@@ -58,7 +59,7 @@ pub fn check_file<R: Files + AllocGlobal, W: Write, E: Write>(
         }
         Err(fault) => {
             let status = refuse_site::<Global, _>(fault, &mut Printing::new(out))?;
-            let _ = say_reasons(alloc, paths, &texts, errors)?;
+            let _ = say_reasons(alloc, sources, &texts, errors)?;
             Ok(status)
         }
     }

@@ -14,7 +14,7 @@ use run_listeners::LabFault;
 use std::alloc::{AllocError, Allocator};
 use std::io::Write;
 
-/// The octets that a text writes in hexadecimal, in either case; `None` where it isn't hexadecimal.
+/// The octets that a text writes in hexadecimal, in either case; `None` if it isn't hexadecimal.
 fn octets<A: Allocator + Copy>(alloc: A, text: &str) -> Result<Option<Vec<u8, A>>, AllocError>
     ensures octets { IfOk result (λ found. IfSome found
         (λ octets. decode_of text.now ≡ Ok octets.items)) }
@@ -94,11 +94,11 @@ pub(crate) fn decode_text<A: Allocator + Copy, W: Write>(
     }
 }
 
-/// Prints the message that a hexadecimal text writes, on one line.
+/// Prints the message that is written in a hexadecimal text, on one line.
 ///
-/// Octets that are no message of the link print `fault`, the link, and the number of the fault with its argument. A
-/// text that isn't hexadecimal prints `hex`. In both cases the answer is `Refused`, else `Done`. An empty text writes
-/// no octets. Once memory was refused (`NoMemory`) nothing is printed; `Write` where `out` can't be written to.
+/// If the octets are no message of the link, `fault`, the link, and the fault's number and argument are printed. If the text
+/// isn't hexadecimal, `hex` is printed. In both cases the answer is `Refused`, else `Done`. An empty text has no octets. If
+/// memory is refused (`NoMemory`), nothing is printed. `Write`: `out` can't be written to.
 pub fn decode_run<A: Allocator + Copy, W: Write>(
     alloc: A,
     link: LinkName,

@@ -1,6 +1,6 @@
 //! One message in octets, from its name and its fields.
 //!
-//! No clause says which octets are printed: that is shown by tests. What octets a text says is said in `encoded_messages`.
+//! No clause says which octets are printed: tests show it. `encoded_messages` says which octets a text stands for.
 ghost use Rattle.std.specs.Prelude.{◌≡◌, ◌≢◌, Ok, OnOk, IfErr};
 ghost use Rattle.lab.specs.Encoded.{CanBeWritten};
 
@@ -45,7 +45,7 @@ impl fmt::Display for EncodeReason<'_> {
                 let link = self.link;
                 write!(
                     f,
-                    "{fault} {link}: a name stands before fields as KEY=VALUE, and bsc_lab help encode lists both"
+                    "{fault} {link}: write a name and then fields as KEY=VALUE; bsc_lab help encode lists both"
                 )
             }
             MessageFault::Field(FieldFault::Unknown(_) | FieldFault::Missing(_)) => {
@@ -63,11 +63,10 @@ impl fmt::Display for EncodeReason<'_> {
     }
 }
 
-/// Prints the octets of the message that a text says, in hexadecimal on one line. The text is one that
-/// [`decode_run`](crate::decoded::decode_run) prints, with its fields in any order. Where it says no message of the
-/// link, or one that has no canonical text, nothing is printed, one line on `errors` says why, and the answer is
-/// `Refused`, else `Done`. `NoMemory`: memory was refused, and nothing is printed. `Write`: `out` or `errors` can't be
-/// written to.
+/// Prints the octets of a message in words, in hexadecimal on one line. The text is one that
+/// [`decode_run`](crate::decoded::decode_run) prints, with its fields in any order. If it is no message of the link, or the
+/// message has no canonical text, nothing is printed, one line on `errors` says why, and the answer is `Refused`; else it is
+/// `Done`. `NoMemory`: memory was refused, and nothing is printed. `Write`: `out` or `errors` can't be written to.
 pub fn encode_run<A: Allocator + Copy, W: Write, E: Write>(
     alloc: A,
     link: LinkName,

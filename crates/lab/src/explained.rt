@@ -1,4 +1,4 @@
-//! What a number stands for, in words.
+//! Words for the numbers of refusals, causes and faults.
 ghost use Rattle.std.specs.Prelude.{◌≡◌, ◌↔◌, true, IfOk};
 ghost use Rattle.explanations.specs.Questions.{IsKnown};
 
@@ -31,7 +31,7 @@ fn say_unknown<E: Write>(question: Question, errors: &mut E) -> io::Result<()> {
         Question::Refusal(number) => {
             writeln!(
                 errors,
-                "error: there is no refusal {number}, they are 1 to 9"
+                "error: there is no refusal {number}: the first is 1, the last is 9"
             )
         }
         Question::Cause(link, cause) => writeln!(errors, "error: there is no cause {link} {cause}"),
@@ -41,15 +41,15 @@ fn say_unknown<E: Write>(question: Question, errors: &mut E) -> io::Result<()> {
                 let last = last_fault(link);
                 writeln!(
                     errors,
-                    "error: there is no fault {link} {number}, they are 1 to {last}"
+                    "error: there is no fault {link} {number}: the first is 1, the last is {last}"
                 )
             }
         },
     }
 }
 
-/// Prints the answer to a question in one line to `out`, and answers true. Where there is no refusal or no fault of the
-/// number, or the fault can't have the argument, `errors` says so, nothing is printed, and the answer is false.
+/// Prints the answer to a question in one line to `out`, and answers true. If there is no refusal or no fault of this
+/// number, or the fault can't have this argument, it prints nothing, says so on `errors`, and answers false.
 pub fn explain<W: Write, E: Write>(
     question: Question,
     out: &mut W,

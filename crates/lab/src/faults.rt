@@ -1,4 +1,4 @@
-//! Why work didn't come to its end, by what didn't.
+//! Faults of printing as faults of the laboratory.
 ghost use Rattle.std.specs.Prelude.{◌≡◌, Ok, Err, IfOk};
 
 use run_listeners::LabFault;

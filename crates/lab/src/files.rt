@@ -5,9 +5,10 @@ ghost use Rattle.std.specs.Str.Lossy.{utf8_valid_len};
 ghost use Rattle.lab.specs.Files.{longest_file};
 
 use crate::run_reason::{say_cut_script, say_refusal};
+use crate::script_names::without_names;
 use crate::script_notes::say_idle_settings;
 use crate::script_sites::{say_other_sites, sites_named_by};
-use crate::site_files::{GivenPaths, SitePaths, SiteTexts, site_texts};
+use crate::site_files::{GivenPaths, SitePaths, SiteSources, SiteTexts, in_files, site_texts};
 use crate::view_paths::{named_twice, refuse_twice};
 use audits::viewed::{AskedRun, audit_viewed};
 use lab_runs::run::{Status, lab_run, run_for};
@@ -15,7 +16,7 @@ use lab_words::Ending;
 use run_listeners::LabFault;
 use run_views::{Viewer, open_sheets};
 use screen_text::{Escaped, Reason};
-use std::alloc::{Allocator, Global};
+use std::alloc::{AllocError, Allocator, Global};
 use std::fmt;
 use std::fs::File;
 use std::io::{self, Read, Write};
@@ -36,7 +37,7 @@ where
     Ok(octets)
 }
 
-/// Octets as many as a file may have; nothing where there are more.
+/// Octets as many as a file may have; nothing if there are more.
 fn within_longest<A: Allocator>(octets: Vec<u8, A>) -> Option<Vec<u8, A>>
     ensures whole { vec_len octets ≤ longest_file →
         option_map (λ found. found.items) result ≡ Some octets.items }
@@ -49,8 +50,8 @@ fn within_longest<A: Allocator>(octets: Vec<u8, A>) -> Option<Vec<u8, A>>
     }
 }
 
-/// All octets that a reader gives; nothing where there are more than a file may have. A device without an end is read up
-/// to one octet more.
+/// All octets that a reader gives; nothing if there are more than a file may have. A device without an end is read up to one
+/// octet more.
 fn whole_octets<A: Allocator, R: Read>(alloc: A, reader: R) -> io::Result<Option<Vec<u8, A>>>
 where
     R: Drop,
@@ -63,7 +64,7 @@ where
     Ok(within_longest(octets))
 }
 
-/// All octets of a file; nothing where it has more than it may have.
+/// All octets of a file; nothing if it has more than it may have.
 fn file_octets<R: Files + AllocGlobal>(rt: &R, path: &str) -> io::Result<Option<Vec<u8>>> {
     whole_octets(rt.alloc(), File::open(rt, path)?)
 }
@@ -120,7 +121,7 @@ fn say_not_text<E: Write>(path: &str, place: usize, errors: &mut E) -> io::Resul
     )
 }
 
-/// The text of a file; nothing where it can't be read, and then its path was printed, and on `errors` why.
+/// The text of a file; nothing if it can't be read, and then its path was printed, and on `errors` why.
 pub(crate) fn text_of<R: Files + AllocGlobal, W: Write, E: Write>(
     rt: &R,
     path: &str,
@@ -149,11 +150,55 @@ struct RunTexts {
     script: String,
 }
 
-/// The texts of a run's files, of which those of the sites are read first, then the script; nothing where one can't be
-/// read, and then the path of the first such was printed, and on `errors` why.
+/// Where a run's script and sites come from.
+#[derive(Clone, Copy)]
+struct RunPaths<'a> {
+    sites: SiteSources<'a>,
+    script: &'a str,
+}
+
+/// A run that is viewed: its script and sites as texts, and the title of its chart.
+#[derive(Clone, Copy)]
+pub(crate) struct ViewedRun<'a> {
+    pub title: &'a str,
+    pub sites: &'a SiteTexts,
+    pub script: &'a str,
+}
+
+/// The title of a run's chart: its script and its sites.
+pub(crate) fn title_of(
+    alloc: Global,
+    script: &str,
+    sites: &SiteTexts,
+) -> Result<String, AllocError> {
+    format!(in alloc; "{script} over {}", sites.names())
+}
+
+/// The paths of those files of a run that no later page of its chart may be.
+fn kept_paths<'a>(
+    alloc: Global,
+    paths: RunPaths<'a>,
+    views: &Views<'a>,
+) -> Result<Vec<&'a str>, AllocError> {
+    let mut kept = Vec::new(alloc);
+    kept.push(paths.script)?;
+    if let Some(first) = paths.sites.first.path() {
+        kept.push(first)?;
+    }
+    if let Some(peer) = paths.sites.peer {
+        kept.push(peer)?;
+    }
+    if let Some(pcap) = views.pcap {
+        kept.push(pcap)?;
+    }
+    Ok(kept)
+}
+
+/// The texts of a run's files, of which those of the sites are read first, then the script; nothing if one can't be read,
+/// and then the path of the first such was printed, and on `errors` why.
 fn run_texts<R: Files + AllocGlobal, W: Write, E: Write>(
     rt: &R,
-    sites: SitePaths<'_>,
+    sites: SiteSources<'_>,
     script: &str,
     out: &mut W,
     errors: &mut E,
@@ -168,6 +213,7 @@ fn run_texts<R: Files + AllocGlobal, W: Write, E: Write>(
     };
     say_cut_script(path, &script, errors)?;
     say_other_sites(rt, given, path, &script, errors)?;
+    let script = without_names(rt.alloc(), path, &sites, script, errors)?;
     Ok(Some(RunTexts { sites, script }))
 }
 
@@ -186,7 +232,7 @@ pub(crate) fn ended_viewed(
 /// Says that no line was of the call whose lines alone are shown, where that is so and something was run.
 fn say_unseen<W: Write, E: Write>(viewer: &Viewer<'_, W>, errors: &mut E) -> io::Result<()> {
     match viewer.unseen_call() {
-        Some(call) if viewer.has_begun() => writeln!(errors, "no line is of call {call}"),
+        Some(call) if viewer.has_begun() => writeln!(errors, "no line is about call {call}"),
         Some(_) | None => Ok(()),
     }
 }
@@ -205,52 +251,82 @@ fn summed<W: Write, E: Write>(
     Ok(status)
 }
 
-/// Runs a script over sites, all given as texts, with the views that are asked for; nothing where one of their files can't be
+/// Runs a script over sites, all given as texts, with the views that are asked for; nothing if one of their files can't be
 /// opened, and then its path was printed, and on `errors` why. What came of the run until it ended, be it early, is written;
-/// but nothing where nothing was run, as where the script or a site is refused, so that the files are as they were.
-fn run_viewed<R: Files + AllocGlobal, W: Write, E: Write>(
+/// but nothing where nothing was run, as where the script or a site is refused, so that the files are as they were. No later page
+/// of the chart may be the file of one of the paths `kept`.
+pub(crate) fn run_viewed<R: Files + AllocGlobal, W: Write, E: Write>(
     rt: &R,
-    texts: &RunTexts,
+    run: ViewedRun<'_>,
     views: &Views<'_>,
+    kept: &[&str],
     out: &mut W,
     errors: &mut E,
 ) -> Result<Option<Status>, LabFault> {
     let alloc = rt.alloc();
-    let RunTexts { sites, script } = texts;
-    let Some(sheets) = open_sheets(rt, views, out, errors)? else {
+    let ViewedRun {
+        title,
+        sites,
+        script,
+    } = run;
+    let Some(sheets) = open_sheets(rt, views, kept, out, errors)? else {
         return Ok(None);
     };
     let peer = sites.peer();
     let mut viewer = Viewer::new(alloc, views, peer.is_some(), out)?;
-    viewer.note_script(script)?;
+    viewer.note_script(title, script)?;
     let ended = run_for(alloc, alloc, sites.first(), peer, script, &mut viewer);
     let ended = summed(alloc, ended, &mut viewer, errors);
     let written = if viewer.has_begun() {
-        sheets.finish(&viewer, errors)
+        sheets.finish(rt, &viewer, errors)
     } else {
         Ok(())
     };
     Ok(Some(ended_viewed(ended, written)?))
 }
 
-/// Runs what was read, with all settled attempts taken out of what was asked, at the end.
-fn run_audited<R: Files + AllocGlobal, W: Write, E: Write>(
+/// Runs what was read, with the views that are asked for, under the names of its files.
+fn run_named<R: Files + AllocGlobal, W: Write, E: Write>(
     rt: &R,
+    paths: RunPaths<'_>,
     texts: &RunTexts,
     views: &Views<'_>,
     out: &mut W,
     errors: &mut E,
 ) -> Result<Option<Status>, LabFault> {
-    let Some(sheets) = open_sheets(rt, views, out, errors)? else {
+    let title = title_of(rt.alloc(), paths.script, &texts.sites)?;
+    let kept = kept_paths(rt.alloc(), paths, views)?;
+    let run = ViewedRun {
+        title: title.as_str(),
+        sites: &texts.sites,
+        script: texts.script.as_str(),
+    };
+    run_viewed(rt, run, views, &kept, out, errors)
+}
+
+/// Runs what was read, with all settled attempts taken out of what was asked, at the end.
+fn run_audited<R: Files + AllocGlobal, W: Write, E: Write>(
+    rt: &R,
+    paths: RunPaths<'_>,
+    texts: &RunTexts,
+    views: &Views<'_>,
+    out: &mut W,
+    errors: &mut E,
+) -> Result<Option<Status>, LabFault> {
+    let alloc = rt.alloc();
+    let title = title_of(alloc, paths.script, &texts.sites)?;
+    let kept = kept_paths(alloc, paths, views)?;
+    let Some(sheets) = open_sheets(rt, views, &kept, out, errors)? else {
         return Ok(None);
     };
     let asked = AskedRun {
         site: texts.sites.first(),
         peer: texts.sites.peer(),
         script: &texts.script,
+        title: &title,
         views,
     };
-    Ok(Some(audit_viewed(rt.alloc(), asked, sheets, out, errors)?))
+    Ok(Some(audit_viewed(rt, asked, sheets, out, errors)?))
 }
 
 /// Runs a script over sites, all given as texts, and prints the trace.
@@ -263,7 +339,7 @@ fn run_plain<W: Write>(alloc: Global, texts: &RunTexts, out: &mut W) -> Result<S
 /// nothing.
 fn say_ended<E: Write>(
     alloc: Global,
-    paths: SitePaths<'_>,
+    sources: SiteSources<'_>,
     path: &str,
     texts: &RunTexts,
     status: Status,
@@ -271,7 +347,7 @@ fn say_ended<E: Write>(
 ) -> Result<Status, LabFault> {
     let RunTexts { sites, script } = texts;
     if status == Status::Refused {
-        say_refusal(alloc, paths, sites, path, script, errors)?;
+        say_refusal(alloc, sources, sites, path, script, errors)?;
     } else {
         say_idle_settings(alloc, path, sites, script, errors)?;
     }
@@ -281,23 +357,24 @@ fn say_ended<E: Write>(
 /// Runs the script of one file over the sites of others.
 fn run_over<R: Files + AllocGlobal, W: Write, E: Write>(
     rt: &R,
-    sites: SitePaths<'_>,
+    sites: SiteSources<'_>,
     script: &str,
     views: &Views<'_>,
     ending: Ending,
     out: &mut W,
     errors: &mut E,
 ) -> Result<Status, LabFault> {
-    if let Some(path) = named_twice(rt, sites, script, views) {
-        return refuse_twice(path, out, errors);
+    if let Some(path) = named_twice(rt, sites, script, views)? {
+        return refuse_twice(&path, out, errors);
     }
     let Some(texts) = run_texts(rt, sites, script, out, errors)? else {
         return Ok(Status::Refused);
     };
+    let paths = RunPaths { sites, script };
     let ended = match ending {
-        Ending::Audit => run_audited(rt, &texts, views, out, errors)?,
+        Ending::Audit => run_audited(rt, paths, &texts, views, out, errors)?,
         Ending::Plain if views.is_plain() => Some(run_plain(rt.alloc(), &texts, out)?),
-        Ending::Plain => run_viewed(rt, &texts, views, out, errors)?,
+        Ending::Plain => run_named(rt, paths, &texts, views, out, errors)?,
     };
     match ended {
         Some(status) => say_ended(rt.alloc(), sites, script, &texts, status, errors),
@@ -305,23 +382,26 @@ fn run_over<R: Files + AllocGlobal, W: Write, E: Write>(
     }
 }
 
-/// Runs the script of one file over the site of another, or over two where a peer's is named, and prints the trace to
-/// `out`, as [`lab_run`] does of texts. Where no site is given the script has to name its own; it is read for that first.
+/// Runs the script of one file over the site of another, or over two sites if a peer is named, and prints the trace to
+/// `out`, as [`lab_run`] does with texts. If no site is given, the script has to name its own; it is read for that first.
 ///
 /// Where views are asked for, their files are opened or made before the run begins, and emptied and written once it ended,
 /// but not where a site or the script is refused; one that can't be opened is refused as one that can't be read, and so
-/// is, before anything is read, one that is another file of the run. One file that is made for both is refused then.
+/// is, before anything is read, one that is another file of the run. One file that is made for both is refused then. Of a chart's
+/// pages the first is treated so; the others are made once the run ended, and none of them is written where it is another file of
+/// the run.
 ///
-/// Where a summary is asked for, what the run came to stands behind the trace's end, in words or as one JSON object.
+/// If a summary is asked for, the counts follow the trace's end, in words or as one JSON object.
 ///
-/// Where an audit is asked for, all settled attempts are taken out of what each controller was asked, at the end, and what
-/// that comes to is printed behind that ([`audit_viewed`]): the answer is `Differs` where something differs then.
+/// If an audit is asked for, all settled attempts are taken out of each controller's history at the end, and the result is
+/// printed after that ([`audit_viewed`]). If something differs then, the answer is `Differs`.
 ///
-/// The site's file is read first, then the peer's, then the script's. Where a file isn't there, can't be read, isn't UTF-8
-/// or has more than [`LONGEST_FILE`] octets, `file` and its path are printed and nothing else, and the answer is `Refused`;
-/// one line on `errors` says why. One says of a script whose last line has no line feed that it may be cut, and one of each
-/// site that it names and isn't run over. Where a site is refused, one line on `errors` says where in its file, and what is
-/// allowed there; where a line of the script is, one says which of its words is wrong, and what may stand there.
+/// The site's file is read first, then the peer's, then the script's. If a file isn't there, can't be read, isn't UTF-8 or
+/// has more than [`LONGEST_FILE`] octets, only `file` and its path are printed, and the answer is `Refused`; one line on
+/// `errors` says why. If the script's last line has no line feed, one line says that it may be cut off. One line names each
+/// site that the script names but isn't run over. If a site is refused, one line on `errors` says where in its file, and
+/// what is allowed there. If a line of the script is refused, one line says which word is wrong, and what is allowed in its
+/// place.
 pub fn run_files<R: Files + AllocGlobal, W: Write, E: Write>(
     rt: &R,
     sites: GivenPaths<'_>,
@@ -333,11 +413,11 @@ pub fn run_files<R: Files + AllocGlobal, W: Write, E: Write>(
 ) -> Result<Status, LabFault> {
     let peer = sites.peer;
     if let Some(first) = sites.first {
-        let sites = SitePaths { first, peer };
+        let sites = in_files(SitePaths { first, peer });
         return run_over(rt, sites, script, views, ending, out, errors);
     }
     match sites_named_by(rt, peer, script, out, errors)? {
-        Some(named) => run_over(rt, named.paths(), script, views, ending, out, errors),
+        Some(named) => run_over(rt, named.sources(), script, views, ending, out, errors),
         None => Ok(Status::Refused),
     }
 }

@@ -1,35 +1,61 @@
-//! What of a script makes that it isn't met, whatever comes of it; and the test of a script that may have such flaws.
+//! Flaws of a script, with which it isn't met whatever comes of it, and the test of a script that may have some.
 //!
-//! No clause says what is printed: that is shown by tests.
-use crate::reasons::print_in_order;
+//! No clause says what is printed: tests show it.
+use crate::absences::has_absences_alone;
 use crate::script_files::worse;
-use crate::script_notes::{say_idle_settings, say_never};
+use crate::script_notes::{Effects, say_idle_settings, say_never};
 use crate::site_files::SiteTexts;
-use idle_settings::Idle;
+use idle_settings::{Cause, Idle};
 use lab_runs::run::Status;
 use run_listeners::LabFault;
-use std::alloc::Global;
-use std::io::{self, Write};
-use std::str;
-use tested_scripts::tested::{Numbered, test_run};
-use tested_scripts::{Miss, NeverLine, Told, print_not_met, print_reason};
+use std::alloc::{AllocError, Global};
+use std::io::Write;
+use tested_scripts::tested::test_run;
+use tested_scripts::{Miss, NeverLine, Reasons, Told, lines_of, print_met, print_not_met};
+
+/// A test among others: its number, counted from 1, and its name.
+#[derive(Clone, Copy)]
+pub(crate) struct Numbered<'a> {
+    pub number: usize,
+    pub name: &'a str,
+}
+
+/// What is known of a script's lines before it is run.
+#[derive(Drop)]
+pub(crate) struct Marks {
+    /// The numbers of comments that look like expectations, and aren't.
+    pub slipped: Vec<usize>,
+    /// The number of the line up to which it is run, which can't be read.
+    pub unread: Option<usize>,
+}
 
 /// What of a script makes that it isn't met, whatever comes of it.
 #[derive(Drop)]
 pub(crate) struct Flaws<'a> {
-    /// The numbers of comments that look like expectations, and aren't.
-    slipped: Vec<usize>,
-    /// Lines that come to nothing.
+    marks: Marks,
+    /// Lines that come to nothing, and shouldn't.
     idle: Vec<Idle>,
+    /// The numbers of lines that have an effect, where a comment says that they have none.
+    unmeant: Vec<usize>,
     /// Lines that nothing can meet, or miss.
     never: Vec<NeverLine<'a>>,
 }
 
-impl Flaws<'_> {
-    /// Whether there is none.
-    fn is_empty(&self) -> bool {
-        self.slipped.is_empty() && self.idle.is_empty() && self.never.is_empty()
+/// Whether a line that comes to nothing makes that the script isn't met. An input does where all that is expected behind it is
+/// that something doesn't come.
+fn is_flaw(lines: &[&str], idle: Idle) -> bool {
+    match idle.cause {
+        Cause::Input(_) => has_absences_alone(lines, idle.line),
+        Cause::Lacks(_) | Cause::Unused(_) | Cause::Again(_) | Cause::Unmet(_) => true,
     }
+}
+
+/// Those of the lines of a script that come to nothing which make that it isn't met.
+fn flaws_in(alloc: Global, script: &str, idle: Vec<Idle>) -> Result<Vec<Idle>, AllocError> {
+    let lines = lines_of(alloc, script)?;
+    let mut idle = idle;
+    idle.retain(|line| is_flaw(&lines, *line));
+    Ok(idle)
 }
 
 /// Says which flaws a script has beside comments that have slipped, and answers all.
@@ -38,18 +64,24 @@ pub(crate) fn say_flaws<'a, E: Write>(
     path: &str,
     sites: &SiteTexts,
     script: &'a str,
-    slipped: Vec<usize>,
+    marks: Marks,
     errors: &mut E,
 ) -> Result<Flaws<'a>, LabFault> {
+    let Effects { idle, unmeant } = say_idle_settings(alloc, path, sites, script, errors)?;
     Ok(Flaws {
-        slipped,
-        idle: say_idle_settings(alloc, path, sites, script, errors)?,
+        marks,
+        idle: flaws_in(alloc, script, idle)?,
+        unmeant,
         never: say_never(alloc, path, sites, script, errors)?,
     })
 }
 
-/// Prints a line of a script that nothing can meet, or miss.
-fn print_never<W: Write>(alloc: Global, never: NeverLine<'_>, out: &mut W) -> Result<(), LabFault> {
+/// Tells a line of a script that nothing can meet, or miss.
+fn tell_never(
+    alloc: Global,
+    never: NeverLine<'_>,
+    reasons: &mut Reasons<Global>,
+) -> Result<(), LabFault> {
     let NeverLine { line, told, why } = never;
     let why = format!(in alloc; "{why}")?;
     let came = why.as_str();
@@ -65,44 +97,50 @@ fn print_never<W: Write>(alloc: Global, never: NeverLine<'_>, out: &mut W) -> Re
             came,
         },
     };
-    Ok(print_reason(out, miss)?)
+    reasons.tell(miss)
 }
 
-/// Prints the flaws of a script, as reasons why it isn't met.
-fn print_flaws<W: Write>(alloc: Global, flaws: &Flaws<'_>, out: &mut W) -> Result<(), LabFault> {
-    for line in &flaws.slipped {
-        print_reason(out, Miss::Slipped(*line))?;
+/// Tells the flaws of a script, as reasons why it isn't met.
+fn tell_flaws(
+    alloc: Global,
+    flaws: &Flaws<'_>,
+    reasons: &mut Reasons<Global>,
+) -> Result<(), LabFault> {
+    for line in &flaws.marks.slipped {
+        reasons.tell(Miss::Slipped(*line))?;
+    }
+    if let Some(line) = flaws.marks.unread {
+        reasons.tell(Miss::Unreadable(line))?;
     }
     for setting in &flaws.idle {
-        print_reason(out, Miss::Idle(setting.line))?;
+        reasons.tell(Miss::Idle(setting.line))?;
+    }
+    for line in &flaws.unmeant {
+        reasons.tell(Miss::Differs {
+            line: *line,
+            expected: Some("no effect"),
+            came: Some("an effect"),
+        })?;
     }
     for never in &flaws.never {
-        print_never(alloc, *never, out)?;
+        tell_never(alloc, *never, reasons)?;
     }
     Ok(())
 }
 
-/// What is printed of a test behind its first line, which says whether it is met.
-fn behind_first(printed: &[u8]) -> &[u8] {
-    match printed.iter().position(|octet| *octet == b'\n') {
-        Some(end) => printed.get(end.saturating_add(1)..).unwrap_or(&[]),
-        None => &[],
+/// How a test ends, by whether its script has flaws, and by how its run ended. One that isn't run to its end is refused.
+fn ended_by(flaws: &Flaws<'_>, has_flaws: bool, run: Status) -> Status {
+    if flaws.marks.unread.is_some() {
+        Status::Refused
+    } else if has_flaws {
+        worse(Status::Differs, run)
+    } else {
+        run
     }
 }
 
-/// The flaws of a script, and what its run prints behind the first line, as reasons one after another. These are kept in memory,
-/// which is all that can be lacking.
-fn reasons_with(alloc: Global, flaws: &Flaws<'_>, printed: &[u8]) -> Result<Vec<u8>, LabFault> {
-    let mut reasons = Vec::new(alloc);
-    let flawed = print_flaws(alloc, flaws, &mut reasons);
-    flawed.map_err(|_| LabFault::NoMemory)?;
-    let differing: io::Result<()> = reasons.write_all(behind_first(printed));
-    differing.map_err(|_| LabFault::NoMemory)?;
-    Ok(reasons)
-}
-
-/// Tests a script that may have flaws, over sites that can be run over. With a flaw it isn't met. The reasons stand in the order of
-/// the script's lines.
+/// Tests a script that may have flaws, over sites that can be run over, and prints whether it is met, or why not. With a flaw it
+/// isn't met. The reasons stand in the order of the script's lines.
 pub(crate) fn test_flawed<W: Write>(
     alloc: Global,
     sites: &SiteTexts,
@@ -112,15 +150,17 @@ pub(crate) fn test_flawed<W: Write>(
     out: &mut W,
 ) -> Result<Status, LabFault> {
     let (first, peer) = (sites.first(), sites.peer());
-    let mut printed = Vec::new(alloc);
-    let ended = test_run(alloc, alloc, first, peer, script, test, &mut printed);
-    let status = ended.map_err(|_| LabFault::NoMemory)?;
-    if flaws.is_empty() && status == Status::Done {
-        out.write_all(&printed)?;
-        return Ok(Status::Done);
+    let mut reasons = Reasons::new(alloc);
+    tell_flaws(alloc, flaws, &mut reasons)?;
+    let has_flaws = !reasons.is_empty();
+    let run = test_run(alloc, alloc, first, peer, script, &mut reasons)?;
+    let ended = ended_by(flaws, has_flaws, run);
+    match ended {
+        Status::Done => print_met(out, test.number, test.name)?,
+        Status::Differs | Status::Refused => {
+            print_not_met(out, test.number, test.name)?;
+            reasons.print(out)?;
+        }
     }
-    let reasons = reasons_with(alloc, flaws, &printed)?;
-    print_not_met(out, test.number, test.name)?;
-    print_in_order(alloc, str::from_utf8(&reasons).unwrap_or(""), out)?;
-    Ok(worse(Status::Differs, status))
+    Ok(ended)
 }

@@ -46,15 +46,15 @@ fn refuse_marked<W: Write, E: Write>(
 ) -> Result<Option<String>, LabFault> {
     writeln!(
         errors,
-        "{}:1: a byte order mark stands before the first word",
+        "{}:1: the line begins with a byte order mark",
         Escaped(path)
     )?;
     writeln!(out, "line 1")?;
     Ok(None)
 }
 
-/// As much of a trace's text as is read; nothing where it is a damaged journal's, and then its path was printed, and on `errors`
-/// why.
+/// As much of a trace's text as is read; nothing if it is a damaged journal's, and then its path was printed, and on
+/// `errors` why.
 fn readable<W: Write, E: Write>(
     alloc: Global,
     text: String,
@@ -77,9 +77,9 @@ fn readable<W: Write, E: Write>(
     }
 }
 
-/// The text of a trace's file, which may be a journal's; nothing where the file can't be read, or is a damaged journal's, and then
-/// its path was printed; where a byte order mark stands in front, and then `line 1` was; where it is no trace (`no trace`), or
-/// lacks the end that it has to have (`no end`); and on `errors` why. A journal's file has no end.
+/// The text of a trace's file, which may be a journal's; nothing if the file can't be read, or is a damaged journal's, and
+/// then its path was printed; where a byte order mark stands in front, and then `line 1` was; where it is no trace (`no
+/// trace`), or lacks the end that it has to have (`no end`); and on `errors` why. A journal's file has no end.
 pub(crate) fn trace_of<R: Files + AllocGlobal, W: Write, E: Write>(
     rt: &R,
     trace: TracePath<'_>,

@@ -1,5 +1,5 @@
-//! The journal of a live controller: what is asked of it, and how it ended.
-ghost use Rattle.std.specs.Prelude.{IsOk, IfOk};
+//! The journal of a live controller: what the command line asks of it, and how a run with it ended.
+ghost use Rattle.std.specs.Prelude.{◌≡◌, false, None, IsOk, IfOk};
 
 use journal_files::{Lost, WhenLost};
 use journal_opening::Asked;
@@ -10,7 +10,11 @@ use screen_text::{Escaped, Reason};
 use std::io::Write;
 
 /// What words ask of a journal.
-pub(crate) fn asked_of(words: JournalWords<'_>) -> Asked<'_> {
+pub(crate) fn asked_of(words: JournalWords<'_>) -> Asked<'_>
+    ensures folder { result.folder.now ≡ words.entry.folder.now }
+    ensures keep { result.keep ≡ words.entry.keep }
+    ensures heard { result.heard ≡ words.entry.heard }
+{
     Asked {
         folder: words.folder,
         keep: words.keep,
@@ -28,6 +32,8 @@ pub(crate) fn ended_journal<E: Write>(
     errors: &mut E,
 ) -> Result<Result<(), LiveFault>, LabFault>
     ensures ended { IfOk result (λ now. IsOk now → IsOk ended) }
+    ensures kept { IfOk result (λ now. IsOk now → lost ≡ None) }
+    ensures memory { IfOk result (λ now. IsOk now → lacks_memory ≡ false) }
 {
     if lacks_memory {
         return Ok(Err(LiveFault::NoMemory));

@@ -1,6 +1,6 @@
 //! Reports of tests in the form of JUnit, which servers of continuous integration read.
 //!
-//! No clause says what is printed: that is shown by tests.
+//! No clause says what is printed: tests show it.
 use chart::Escaped as InXml;
 use lab_runs::run::Status;
 use run_listeners::LabFault;

@@ -1,7 +1,7 @@
 //! A controller that is given the lines of standard input as they come.
 //!
-//! No clause says what is printed: which lines are handled is said in `live_runs`.
-ghost use Rattle.std.specs.Prelude.{◌≡◌, false, Ok, IsOk, IfOk, IfSome};
+//! No clause says what is printed. `live_runs` says which lines are handled.
+ghost use Rattle.std.specs.Prelude.{◌≡◌, ◌+◌, ◌-◌, ◌^◌, min, true, false, Ok, IsOk, IfOk, IfSome};
 ghost use Rattle.std.specs.declared.alloc.Global.{Global};
 ghost use Rattle.cell_table.specs.SiteFile.{read_site};
 ghost use Rattle.journal_records.specs.Checksum.{checksum};
@@ -32,12 +32,12 @@ use std::rt::Files;
 use std::sync::Arc;
 use view_options::Views;
 
-/// What is asked of a live run.
+/// The options of a live run.
 #[derive(Clone, Copy)]
 pub struct AskedLive<'a> {
     /// The path of the site's file.
     pub path: &'a str,
-    /// What is to be seen beside the trace.
+    /// The views beside the trace.
     pub views: &'a Views<'a>,
     /// After how many events the history begins anew.
     pub entries: usize,
@@ -66,7 +66,7 @@ fn read_site(alloc: Global, text: &str) -> Result<Result<ReadSite, SiteFault>, A
     Ok(Ok(ReadSite { site, sum }))
 }
 
-/// The site of a file; nothing where file or site is refused, and then `out` and `errors` say so.
+/// The site of a file; nothing if file or site is refused, and then `out` and `errors` say so.
 fn site_of<R: Files + AllocGlobal, W: Write, E: Write>(
     rt: &R,
     path: &str,
@@ -102,7 +102,7 @@ fn ended_live<E: Write>(ended: Result<(), LiveFault>, errors: &mut E) -> Result<
     }
 }
 
-/// Runs a live controller over a book, with the views that are asked for; nothing where the file of one can't be opened, and
+/// Runs a live controller over a book, with the views that are asked for; nothing if the file of one can't be opened, and
 /// then its path was printed, and on `errors` why.
 fn live_viewed<R: Files + AllocGlobal, I: BufRead + LineReader, W: Write, E: Write>(
     rt: &R,
@@ -111,9 +111,12 @@ fn live_viewed<R: Files + AllocGlobal, I: BufRead + LineReader, W: Write, E: Wri
     reader: &mut I,
     out: &mut W,
     errors: &mut E,
-) -> Result<Status, LabFault> {
+) -> Result<Status, LabFault>
+    ensures handled { result ≡ Ok Status.Done → IfSome (I.remaining reader.old) (λ octets.
+        Played Global book (items_from true false octets)) }
+{
     let alloc = rt.alloc();
-    let Some(sheets) = open_sheets(rt, asked.views, out, errors)? else {
+    let Some(sheets) = open_sheets(rt, asked.views, &[], out, errors)? else {
         return Ok(Status::Refused);
     };
     let mut viewer = LiveViewer::new(alloc, asked.views, sheets, out, errors)?;
@@ -129,6 +132,8 @@ fn live_viewed<R: Files + AllocGlobal, I: BufRead + LineReader, W: Write, E: Wri
 
 /// How lines are taken behind the last one that a journal has.
 fn rules_behind(last: u64, entries: usize) -> Rules
+    ensures first { result.first ≡ min (last + 1) (2 ^ 64 - 1) }
+    ensures entries { result.entries ≡ entries }
     ensures sims { result.sims ≡ false }
 {
     Rules {
@@ -139,10 +144,10 @@ fn rules_behind(last: u64, entries: usize) -> Rules
 }
 
 /// The viewer, once what it tells begins with a book.
-fn begun_with<'a, 'p, W: Write, F: Write + OpenFile + Drop>(
-    mut viewer: LiveViewer<'a, 'p, W, F>,
+fn begun_with<'a, W: Write, F: Write + OpenFile + Drop>(
+    mut viewer: LiveViewer<'a, W, F>,
     book: &Book<Global>,
-) -> Result<LiveViewer<'a, 'p, W, F>, AllocError> {
+) -> Result<LiveViewer<'a, W, F>, AllocError> {
     let begun = viewer.begin_with(book);
     begun.map(|()| viewer)
 }
@@ -162,7 +167,7 @@ fn live_journaled<R: Files + AllocGlobal, I: BufRead + LineReader, W: Write, E: 
         Played Global opened.entry.book (items_from false false octets)) }
 {
     let alloc = rt.alloc();
-    let Some(sheets) = open_sheets(rt, asked.views, out, errors)? else {
+    let Some(sheets) = open_sheets(rt, asked.views, &[], out, errors)? else {
         return Ok(Status::Refused);
     };
     let Opened { journal, book } = opened;
@@ -192,21 +197,23 @@ fn live_journaled<R: Files + AllocGlobal, I: BufRead + LineReader, W: Write, E: 
     ended_viewed(ended_live(ended, errors), written)
 }
 
-/// Runs a controller over the site of a file, by the lines of `input` as they come, and prints the trace to `out`, as
-/// [`live_run`] tells it; `out` is flushed behind each line. Of the views that are asked for, words and states are printed
-/// with the lines, and the capture's file is emptied when the site was read, and then grows with each line. The line `summary`
-/// is answered by what came so far, counted.
+/// Runs a controller over the site of a file. It handles the lines of `input` as they come, and prints the trace to `out`,
+/// as [`live_run`] tells it; `out` is flushed after each line. Words and states are printed with the lines, if these views
+/// are asked for. The capture's file is emptied once the site was read, and then grows with each line. The line `summary`
+/// prints the counts so far.
 ///
-/// The history begins anew behind a line with which it has as many entries as is asked for, or the journal's file as many lines.
-/// With a journal what came of each line is on the disk before anything of it is written to `out`; where the folder has a
-/// journal already, the controller goes on with its book and its count of lines, as `errors` says.
+/// The history begins anew after a line with which it has the number of entries that is asked for, or with which the
+/// journal's file has this number of lines. With a journal, what came of each line is on the disk before any of it is
+/// written to `out`. If the folder has a journal already, the controller goes on with its book and its numbers of lines, and
+/// `errors` says so.
 ///
-/// The file and its site are refused as [`run_files`](crate::files::run_files) refuses them, before anything of `input` is read.
-/// The answer is `Done` at the end of `input`, and `Refused` where the file, the site or the journal is, where the capture's
-/// file can't be opened, or where `input` can't be read, as one line on `errors` then says. A write that fails ends the run
-/// (`Write`), one of the journal as it is asked for, but one of the capture ends that alone, as `errors` then says: the answer
-/// is `Write` once `input` has ended. The run ends, too, with refused memory (`NoMemory`), before which the messages that are
-/// owed are printed; with a journal nothing is then printed of the line.
+/// The file and its site are refused as by [`run_files`](crate::files::run_files), before anything of `input` is read. At
+/// the end of `input` the answer is `Done`. It is `Refused` if the file, the site or the journal is refused, if the
+/// capture's file can't be opened, or if `input` can't be read; one line on `errors` says why. If `out` can't be written to,
+/// the run ends (`Write`). If the journal can't be written, the run ends or goes on, as it was asked to. If the capture
+/// can't be written, only the capture ends, and `errors` says so; the answer is `Write` once `input` has ended. If memory is
+/// refused, the run ends too (`NoMemory`). Before that the messages that are owed are printed; with a journal nothing of the
+/// line is printed then.
 pub fn live_file<R: Files + AllocGlobal, I: Read + Drop, W: Write, E: Write>(
     rt: &R,
     asked: AskedLive<'_>,

@@ -1,4 +1,4 @@
-//! What the program does with the words of its command line.
+//! The program: it does what the words of its command line ask for.
 use crate::check::check_file;
 use crate::decoded::{Decoded, LinkName, decode_text, ended};
 use crate::encoded::encode_run;
@@ -33,7 +33,7 @@ fn explain_number<W: Write, E: Write>(
 }
 
 /// Why a storm isn't run among the other jobs.
-const STORM_ALONE: &str = "error: a storm runs on threads, and isn't asked for here";
+const STORM_ALONE: &str = "error: a storm needs threads, and can't be run here";
 
 /// Says why the words of a command line are refused.
 fn refuse_words<E: Write>(reason: &str, errors: &mut E) -> Result<Status, LabFault> {
@@ -62,14 +62,14 @@ fn decode<W: Write, E: Write>(
 /// whether the rest comes to the same ([`rewind_files`]), each ([`rewind_all_files`]) or all of them together
 /// ([`audit_files`]), counts what a trace tells ([`summary_file`]), tests scripts ([`test_files`]), takes each attempt of
 /// theirs back at each point ([`try_undos_files`]) or records one ([`record_file`]), prints the cells of a site
-/// ([`check_file`]), prints a message in words ([`decode_run`]) or those of many lines ([`answer_file`]), prints a
+/// ([`check_file`]) or a site of cells alike, prints a message in words ([`decode_run`]) or those of many lines ([`answer_file`]), prints a
 /// message's octets ([`encode_run`]), says in words what a number stands for ([`explain`]), or shows help or the version.
 /// `input` is standard input. What it prints goes to `out`; why words, a site, a file or a message are refused goes to
 /// `errors`. It ends as the command does ([`Status`], [`LabFault`]); words that are refused are `Refused`, help and the
 /// version `Done`. It waits for no thread: a storm, which does, is refused here, and is run by
 /// [`storm_file`](crate::storm::storm_file) for who looks for it first ([`storm_asked`](crate::storm::storm_asked)).
 ///
-/// No clause says what is printed, nor which words end how: that is shown by tests.
+/// No clause says what is printed, nor how which words end: tests show it.
 pub fn perform<R: Files + AllocGlobal, I: Read + Drop, W: Write, E: Write>(
     rt: &R,
     words: &[&str],
@@ -109,9 +109,9 @@ where
             Job::Test {
                 sites,
                 scripts,
-                report,
+                written,
             },
-        ) => test_files(rt, sites, &scripts, report, out, errors),
+        ) => test_files(rt, sites, &scripts, written, out, errors),
         Ok(Job::TryUndos { sites, scripts }) => try_undos_files(rt, sites, &scripts, out, errors),
         Ok(
             Job::Record {
@@ -126,6 +126,10 @@ where
         Ok(Job::Summary { trace, form }) => summary_file(rt, trace, form, out, errors),
         Ok(Job::Storm { .. }) => refuse_words(STORM_ALONE, errors),
         Ok(Job::Check { sites }) => check_file(rt, sites, out, errors),
+        Ok(Job::Cells(site)) => {
+            write!(out, "{site}")?;
+            Ok(Status::Done)
+        }
         Ok(Job::Decode { link, text }) => decode(rt.alloc(), link, text, out, errors),
         Ok(Job::DecodeLines { asked, path }) => {
             ended(answer_file(rt, asked, path, input, out, errors))

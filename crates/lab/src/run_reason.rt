@@ -1,9 +1,10 @@
 //! Why a run was refused: one line for a person.
 //!
-//! No clause says what the line holds. Which line of a script is refused is `read_script`'s to say, and why by which word
-//! `script_reasons` says.
+//! No clause says what the line holds. `read_script` says which line of a script is refused, and `script_reasons` which word
+//! is the reason.
 use crate::script_notes::say_bare_returns;
-use crate::site_files::{SitePaths, SiteTexts, say_reasons};
+use crate::site_files::{SiteSources, SiteTexts, say_reasons};
+use expectations::has_name;
 use lab_script::script::{ScriptFault, read_script};
 use run_listeners::LabFault;
 use screen_text::Escaped;
@@ -23,7 +24,7 @@ pub(crate) fn say_cut_script<E: Write>(
     }
     writeln!(
         errors,
-        "{}: the last line has no line feed: it may be cut",
+        "{}: the last line has no line feed, and may be cut off",
         Escaped(path)
     )?;
     Ok(())
@@ -50,13 +51,21 @@ fn say_reason<E: Write>(
     match (reason.fault, naming) {
         (Fault::NoPeer, Naming::InScript) => writeln!(
             errors,
-            "{path}:{line}: 2: is for a second controller, and the script names none (#% peer PATH)"
+            "{path}:{line}: 2: is for a second controller, but the script names none (#% peer PATH)"
         ),
         (_, Naming::Given | Naming::InScript) => writeln!(errors, "{path}:{line}: {reason}"),
     }
 }
 
-/// Says why the first line of a script that can't be read can't be, if there is one.
+/// Whether the line of a script of this number, counted from 1, has names.
+fn names_at(script: &str, number: usize) -> bool {
+    script
+        .split('\n')
+        .nth(number.saturating_sub(1))
+        .is_some_and(|line| has_name(line))
+}
+
+/// Says why the first line of a script that can't be read can't be, if there is one. Of a line with names that was said before.
 pub(crate) fn say_line<E: Write>(
     alloc: Global,
     path: &str,
@@ -70,6 +79,10 @@ pub(crate) fn say_line<E: Write>(
         Err(ScriptFault::Line(line)) => line,
         Err(ScriptFault::NoMemory) => return Err(LabFault::NoMemory),
     };
+    if names_at(script, line) {
+        // that one stands for nothing was said before
+        return Ok(());
+    }
     if let Some(reason) = script_reason(script, line, has_peer) {
         say_reason(path, line, reason, naming, errors)?;
     }
@@ -79,13 +92,13 @@ pub(crate) fn say_line<E: Write>(
 /// Says why a run over sites was refused: why the first of them that is refused is, or else why the script is.
 pub(crate) fn say_refusal<E: Write>(
     alloc: Global,
-    paths: SitePaths<'_>,
+    sources: SiteSources<'_>,
     sites: &SiteTexts,
     path: &str,
     script: &str,
     errors: &mut E,
 ) -> Result<(), LabFault> {
-    if say_reasons(alloc, paths, sites, errors)? {
+    if say_reasons(alloc, sources, sites, errors)? {
         return Ok(());
     }
     let has_peer = sites.peer().is_some();

@@ -1,23 +1,29 @@
 //! Tests and records of scripts in files.
 use crate::files::text_of;
-use crate::flaws::{say_flaws, test_flawed};
+use crate::flaws::{Marks, Numbered, say_flaws, test_flawed};
 use crate::junit::Report;
+use crate::kept::{is_folder_there, keep_run};
 use crate::run_reason::{Naming, say_cut_script, say_line, say_refusal};
+use crate::script_names::{say_names, without_names};
 use crate::script_notes::{say_idle_settings, say_slipped};
 use crate::script_sites::{
     GivenSites, ScriptSites, fault_of, say_other_sites, sites_named_by, sites_of_script,
 };
-use crate::site_files::{GivenPaths, SitePaths, SiteTexts, say_reasons, site_texts};
-use crate::view_paths::{is_same, refuse_twice};
+use crate::site_files::{
+    GivenPaths, SitePaths, SiteSources, SiteTexts, in_files, say_reasons, site_texts,
+};
+use crate::view_paths::refuse_twice;
 use expectations::Recording;
 use lab_runs::run::{Status, refuse_site};
+use lab_words::TestFiles;
 use run_listeners::{LabFault, Printing};
+use run_views::is_same;
+use screen_text::Escaped;
 use std::alloc::Global;
 use std::io::{self, Write};
 use std::rt::Files;
 use tested_scripts::recorded::record_run;
-use tested_scripts::tested::Numbered;
-use tested_scripts::{Miss, print_miss, print_plan};
+use tested_scripts::{Miss, Named, print_miss, print_plan};
 use undone_runs::tried::{Trial, try_undos};
 use undone_runs::{Tally, print_tally};
 
@@ -30,23 +36,64 @@ pub(crate) fn worse(one: Status, other: Status) -> Status {
     }
 }
 
-/// Tests a script over sites that can be run over.
-fn test_over<W: Write, E: Write>(
-    alloc: Global,
-    sites: &SiteTexts,
+/// What is asked of tests: the sites that are given for their scripts, and the folder in which those are kept that aren't met.
+#[derive(Drop)]
+struct AskedTests<'a> {
+    given: GivenSites<'a>,
+    kept: Option<&'a str>,
+}
+
+/// A script that is tested: its text, who names its sites, and which of its comments have slipped.
+#[derive(Drop)]
+struct TestedScript<'a> {
+    text: &'a str,
     naming: Naming,
-    script: &str,
     slipped: Vec<usize>,
+}
+
+/// The text of a script that is tested: with values in the place of its names, up to the line that can't be read because of one; and
+/// the number of that line.
+fn tested_of<'a>(named: Option<&'a Named>, script: &'a str) -> (&'a str, Option<usize>) {
+    let Some(named) = named else {
+        return (script, None);
+    };
+    match &named.unnamed {
+        Some(unnamed) => (unnamed.front.as_str(), Some(unnamed.line)),
+        None => (named.text.as_str(), None),
+    }
+}
+
+/// Tests a script over sites that can be run over, and keeps it in a folder, where one is given and it isn't met.
+fn test_over<R: Files + AllocGlobal, W: Write, E: Write>(
+    rt: &R,
+    sites: &SiteTexts,
+    script: TestedScript<'_>,
+    kept: Option<&str>,
     test: Numbered<'_>,
     out: &mut W,
     errors: &mut E,
 ) -> Result<Status, LabFault> {
+    let alloc = rt.alloc();
+    let TestedScript {
+        text,
+        naming,
+        slipped,
+    } = script;
     let has_peer = sites.peer().is_some();
-    let flaws = say_flaws(alloc, test.name, sites, script, slipped, errors)?;
-    let status = test_flawed(alloc, sites, script, test, &flaws, out)?;
+    let named = say_names(alloc, test.name, sites, text, errors)?;
+    let (text, unread) = tested_of(named.as_ref(), text);
+    let marks = Marks { slipped, unread };
+    let flaws = say_flaws(alloc, test.name, sites, text, marks, errors)?;
+    let status = test_flawed(alloc, sites, text, test, &flaws, out)?;
     if status == Status::Refused {
         // the sites were read before
-        say_line(alloc, test.name, script, has_peer, naming, errors)?;
+        say_line(alloc, test.name, text, has_peer, naming, errors)?;
+    }
+    if status == Status::Differs
+        && let Some(folder) = kept
+        && !keep_run(rt, folder, test.name, sites, text, errors)?
+    {
+        return Ok(Status::Refused);
     }
     Ok(status)
 }
@@ -54,7 +101,7 @@ fn test_over<W: Write, E: Write>(
 /// Tests the script of a file.
 fn test_file<R: Files + AllocGlobal, W: Write, E: Write>(
     rt: &R,
-    given: &GivenSites<'_>,
+    asked: &AskedTests<'_>,
     test: Numbered<'_>,
     out: &mut W,
     errors: &mut E,
@@ -66,14 +113,23 @@ fn test_file<R: Files + AllocGlobal, W: Write, E: Write>(
     };
     say_cut_script(test.name, &script, errors)?;
     let slipped = say_slipped(alloc, test.name, &script, errors)?;
-    match sites_of_script(rt, given, test.name, &script, errors)? {
+    let text = script.as_str();
+    match sites_of_script(rt, &asked.given, test.name, text, errors)? {
         ScriptSites::Given(texts) => {
-            let naming = Naming::Given;
-            test_over(alloc, texts, naming, &script, slipped, test, out, errors)
+            let script = TestedScript {
+                text,
+                naming: Naming::Given,
+                slipped,
+            };
+            test_over(rt, texts, script, asked.kept, test, out, errors)
         }
         ScriptSites::Named(texts) => {
-            let naming = Naming::InScript;
-            test_over(alloc, &texts, naming, &script, slipped, test, out, errors)
+            let script = TestedScript {
+                text,
+                naming: Naming::InScript,
+                slipped,
+            };
+            test_over(rt, &texts, script, asked.kept, test, out, errors)
         }
         ScriptSites::Unreadable(miss) => {
             print_miss(out, test.number, test.name, miss)?;
@@ -82,25 +138,25 @@ fn test_file<R: Files + AllocGlobal, W: Write, E: Write>(
     }
 }
 
-/// The texts of sites that can be run over; nothing where a file or a site is refused, and then `out` and `errors` say so.
+/// The texts of sites that can be run over; nothing if a file or a site is refused, and then `out` and `errors` say so.
 fn readable_texts<R: Files + AllocGlobal, W: Write, E: Write>(
     rt: &R,
-    paths: SitePaths<'_>,
+    sources: SiteSources<'_>,
     out: &mut W,
     errors: &mut E,
 ) -> Result<Option<SiteTexts>, LabFault> {
-    let Some(texts) = site_texts(rt, paths, out, errors)? else {
+    let Some(texts) = site_texts(rt, sources, out, errors)? else {
         return Ok(None);
     };
     if let Some(fault) = fault_of(rt.alloc(), &texts) {
         refuse_site::<Global, _>(fault, &mut Printing::new(out))?;
-        say_reasons(rt.alloc(), paths, &texts, errors)?;
+        say_reasons(rt.alloc(), sources, &texts, errors)?;
         return Ok(None);
     }
     Ok(Some(texts))
 }
 
-/// The sites that are given for scripts; nothing where a file or a site is refused, and then `out` and `errors` say so.
+/// The sites that are given for scripts; nothing if a file or a site is refused, and then `out` and `errors` say so.
 fn readable_sites<'a, R: Files + AllocGlobal, W: Write, E: Write>(
     rt: &R,
     paths: GivenPaths<'a>,
@@ -111,7 +167,8 @@ fn readable_sites<'a, R: Files + AllocGlobal, W: Write, E: Write>(
         return Ok(Some(GivenSites { paths, texts: None }));
     };
     let peer = paths.peer;
-    match readable_texts(rt, SitePaths { first, peer }, out, errors)? {
+    let sources = in_files(SitePaths { first, peer });
+    match readable_texts(rt, sources, out, errors)? {
         Some(texts) => {
             let texts = Some(texts);
             Ok(Some(GivenSites { paths, texts }))
@@ -128,21 +185,21 @@ fn text_printed(alloc: Global, printed: Vec<u8>) -> String {
     }
 }
 
-/// Tests the script of a file, and notes how that ended in a report, where there is one.
+/// Tests the script of a file, and notes how that ended in a report, if there is one.
 fn test_noted<R: Files + AllocGlobal, W: Write, E: Write>(
     rt: &R,
-    given: &GivenSites<'_>,
+    asked: &AskedTests<'_>,
     test: Numbered<'_>,
     report: &mut Option<Report>,
     out: &mut W,
     errors: &mut E,
 ) -> Result<Status, LabFault> {
     let Some(report) = report else {
-        return test_file(rt, given, test, out, errors);
+        return test_file(rt, asked, test, out, errors);
     };
     let alloc = rt.alloc();
     let mut printed = Vec::new(alloc);
-    let status = test_file(rt, given, test, &mut printed, errors)?;
+    let status = test_file(rt, asked, test, &mut printed, errors)?;
     out.write_all(&printed)?;
     report.note(alloc, test.name, status, &text_printed(alloc, printed))?;
     Ok(status)
@@ -151,7 +208,7 @@ fn test_noted<R: Files + AllocGlobal, W: Write, E: Write>(
 /// Tests the scripts of some files, one after another.
 fn test_all<R: Files + AllocGlobal, W: Write, E: Write>(
     rt: &R,
-    given: &GivenSites<'_>,
+    asked: &AskedTests<'_>,
     scripts: &[&str],
     report: &mut Option<Report>,
     out: &mut W,
@@ -163,7 +220,7 @@ fn test_all<R: Files + AllocGlobal, W: Write, E: Write>(
     for name in scripts {
         number = number.saturating_add(1);
         let test = Numbered { number, name };
-        ended = worse(ended, test_noted(rt, given, test, report, out, errors)?);
+        ended = worse(ended, test_noted(rt, asked, test, report, out, errors)?);
         // whoever reads the tests sees each as soon as it ended
         out.flush()?;
     }
@@ -175,14 +232,22 @@ fn test_given<R: Files + AllocGlobal, W: Write, E: Write>(
     rt: &R,
     paths: GivenPaths<'_>,
     scripts: &[&str],
+    kept: Option<&str>,
     report: &mut Option<Report>,
     out: &mut W,
     errors: &mut E,
 ) -> Result<Status, LabFault> {
-    match readable_sites(rt, paths, out, errors)? {
-        Some(sites) => test_all(rt, &sites, scripts, report, out, errors),
-        None => Ok(Status::Refused),
+    let Some(given) = readable_sites(rt, paths, out, errors)? else {
+        return Ok(Status::Refused);
+    };
+    if let Some(folder) = kept
+        && !is_folder_there(rt, folder, errors)?
+    {
+        writeln!(out, "file {}", Escaped(folder))?;
+        return Ok(Status::Refused);
     }
+    let asked = AskedTests { given, kept };
+    test_all(rt, &asked, scripts, report, out, errors)
 }
 
 /// Whether the file of a report is one that is read: that would be lost.
@@ -192,29 +257,32 @@ fn is_read<R: Files>(rt: &R, paths: GivenPaths<'_>, scripts: &[&str], report: &s
     is_site || is_peer || scripts.iter().any(|script| is_same(rt, *script, report))
 }
 
-/// Tests the scripts of some files, each over the sites that it names, or else over those that are given, as [`test_run`] does of
-/// texts, and prints TAP: how many there are, and then each. A script that can't be read is refused, and those behind it
-/// are tested all the same: the answer is `Refused` where one was refused, else `Differs` where one differs. The files of
-/// sites, and sites, are refused as by [`run_files`](crate::files::run_files), and then no script is read.
+/// Tests the scripts of some files, each over the sites that it names, or else over those that are given, as [`test_run`]
+/// does with texts. Prints TAP: the number of tests, and then each test. If a script can't be read, it is refused, and the
+/// scripts after it are tested all the same. The answer is `Refused` if a script was refused, else `Differs` if one differs,
+/// else `Done`. Files of sites, and sites, are refused as by [`run_files`](crate::files::run_files); then no script is read.
 ///
 /// Where a report is asked for it is written at the end, in the form of JUnit; where it can't be the answer is `Refused`, and
-/// `errors` says why. Its file is refused before anything is read where it is one of those that are.
+/// `errors` says why. Its file is refused before anything is read where it is one of those that are. Where scripts that aren't
+/// met are to be kept, their files are written as each ended ([`keep_run`]); the folder is made first, and refused as a file is
+/// where it can't be.
 pub fn test_files<R: Files + AllocGlobal, W: Write, E: Write>(
     rt: &R,
     paths: GivenPaths<'_>,
     scripts: &[&str],
-    report: Option<&str>,
+    written: TestFiles<'_>,
     out: &mut W,
     errors: &mut E,
 ) -> Result<Status, LabFault> {
+    let TestFiles { report, kept } = written;
     let Some(path) = report else {
-        return test_given(rt, paths, scripts, &mut None, out, errors);
+        return test_given(rt, paths, scripts, kept, &mut None, out, errors);
     };
     if is_read(rt, paths, scripts, path) {
         return refuse_twice(path, out, errors);
     }
     let mut report = Some(Report::new(rt.alloc()));
-    let ended = test_given(rt, paths, scripts, &mut report, out, errors)?;
+    let ended = test_given(rt, paths, scripts, kept, &mut report, out, errors)?;
     match report {
         Some(report) if !report.write_to(rt, path, errors)? => Ok(Status::Refused),
         Some(_) | None => Ok(ended),
@@ -226,22 +294,23 @@ fn try_over<W: Write, E: Write>(
     alloc: Global,
     sites: &SiteTexts,
     naming: Naming,
-    script: &str,
+    script: String,
     name: &str,
     tally: &mut Tally,
     out: &mut W,
     errors: &mut E,
 ) -> Result<Status, LabFault> {
+    let script = without_names(alloc, name, sites, script, errors)?;
     let trial = Trial {
         site: sites.first(),
         peer: sites.peer(),
-        script,
+        script: &script,
         name,
     };
     let status = try_undos(alloc, alloc, trial, tally, out)?;
     if status == Status::Refused {
         // the sites were read before
-        say_line(alloc, name, script, trial.peer.is_some(), naming, errors)?;
+        say_line(alloc, name, &script, trial.peer.is_some(), naming, errors)?;
     }
     Ok(status)
 }
@@ -264,11 +333,11 @@ fn try_file<R: Files + AllocGlobal, W: Write, E: Write>(
     match sites_of_script(rt, given, name, &script, errors)? {
         ScriptSites::Given(texts) => {
             let naming = Naming::Given;
-            try_over(alloc, texts, naming, &script, name, tally, out, errors)
+            try_over(alloc, texts, naming, script, name, tally, out, errors)
         }
         ScriptSites::Named(texts) => {
             let naming = Naming::InScript;
-            try_over(alloc, &texts, naming, &script, name, tally, out, errors)
+            try_over(alloc, &texts, naming, script, name, tally, out, errors)
         }
         ScriptSites::Unreadable(miss) => {
             print_miss(out, tally.next(), name, miss)?;
@@ -280,14 +349,14 @@ fn try_file<R: Files + AllocGlobal, W: Write, E: Write>(
 /// Says that no attempt was taken back, where none was.
 fn say_no_attempts<E: Write>(tally: &Tally, errors: &mut E) -> io::Result<()> {
     if tally.tests == 0 {
-        writeln!(errors, "no attempts: nothing was taken back")?;
+        writeln!(errors, "no attempt was open, so none was undone")?;
     }
     Ok(())
 }
 
-/// Takes each attempt of the scripts of some files back at each point, over sites as [`test_files`] does, as [`try_undos`] does of
-/// texts, and prints TAP: each test, then how many there were and what came of them; where
-/// there was none, `errors` says so. Scripts and sites are refused as by [`test_files`].
+/// Undoes each attempt of the scripts of some files at each point, over sites as [`test_files`] does, and as [`try_undos`]
+/// does with texts. Prints TAP: each test, then the number of tests and their results. If there was no test, `errors` says
+/// so. Scripts and sites are refused as by [`test_files`].
 pub fn try_undos_files<R: Files + AllocGlobal, W: Write, E: Write>(
     rt: &R,
     paths: GivenPaths<'_>,
@@ -308,28 +377,56 @@ pub fn try_undos_files<R: Files + AllocGlobal, W: Write, E: Write>(
     Ok(ended)
 }
 
-/// Records the script of a file over the sites of others.
+/// Refuses a line that is to be recorded alone, where a script has fewer lines: its number is printed, and on `errors` how many
+/// there are. Answers whether it is refused.
+fn refuse_line<W: Write, E: Write>(
+    script: &str,
+    text: &str,
+    recording: Recording,
+    out: &mut W,
+    errors: &mut E,
+) -> io::Result<bool> {
+    let count = text.lines().count();
+    match recording.only {
+        Some(line) if count < line => {
+            writeln!(
+                errors,
+                "{}:{line}: the script has {count} lines",
+                Escaped(script)
+            )?;
+            writeln!(out, "line {line}")?;
+            Ok(true)
+        }
+        Some(_) | None => Ok(false),
+    }
+}
+
+/// Records the script of a file over sites.
 fn record_over<R: Files + AllocGlobal, W: Write, E: Write>(
     rt: &R,
-    paths: SitePaths<'_>,
+    sources: SiteSources<'_>,
     script: &str,
     recording: Recording,
     out: &mut W,
     errors: &mut E,
 ) -> Result<Status, LabFault> {
     let alloc = rt.alloc();
-    let Some(sites) = site_texts(rt, paths, out, errors)? else {
+    let Some(sites) = site_texts(rt, sources, out, errors)? else {
         return Ok(Status::Refused);
     };
     let Some(text) = text_of(rt, script, out, errors)? else {
         return Ok(Status::Refused);
     };
+    if refuse_line(script, &text, recording, out, errors)? {
+        return Ok(Status::Refused);
+    }
     say_cut_script(script, &text, errors)?;
-    say_other_sites(rt, paths, script, &text, errors)?;
+    say_other_sites(rt, sources, script, &text, errors)?;
+    let text = without_names(alloc, script, &sites, text, errors)?;
     let peer = sites.peer();
     let status = record_run(alloc, alloc, sites.first(), peer, &text, recording, out)?;
     if status == Status::Refused {
-        say_refusal(alloc, paths, &sites, script, &text, errors)?;
+        say_refusal(alloc, sources, &sites, script, &text, errors)?;
     } else {
         say_idle_settings(alloc, script, &sites, &text, errors)?;
     }
@@ -338,7 +435,7 @@ fn record_over<R: Files + AllocGlobal, W: Write, E: Write>(
 
 /// Records the script of a file, in these forms, over the sites that are given, or else over those that it names, as
 /// [`record_run`] does of texts. Files and sites are refused as by [`run_files`](crate::files::run_files), and the same is said of
-/// the script.
+/// the script; so is, by its number, a line that is to be recorded alone, where the script has fewer.
 pub fn record_file<R: Files + AllocGlobal, W: Write, E: Write>(
     rt: &R,
     paths: GivenPaths<'_>,
@@ -349,11 +446,11 @@ pub fn record_file<R: Files + AllocGlobal, W: Write, E: Write>(
 ) -> Result<Status, LabFault> {
     let peer = paths.peer;
     if let Some(first) = paths.first {
-        let sites = SitePaths { first, peer };
+        let sites = in_files(SitePaths { first, peer });
         return record_over(rt, sites, script, recording, out, errors);
     }
     match sites_named_by(rt, peer, script, out, errors)? {
-        Some(named) => record_over(rt, named.paths(), script, recording, out, errors),
+        Some(named) => record_over(rt, named.sources(), script, recording, out, errors),
         None => Ok(Status::Refused),
     }
 }

@@ -1,17 +1,18 @@
-//! What is said of a script beside what comes of it: comments that look like slipped ones, or that nothing can miss, carriage
-//! returns, and settings that come to nothing.
+//! Notes about a script for standard error: comments that look like expectations, expectations that can't be met or are
+//! always met, carriage returns, and settings without effect.
 //!
-//! No clause says what the lines hold: that is shown by tests.
+//! No clause says what the lines hold: tests show it.
+use crate::absences::{expects_a_line, is_meant};
 use crate::site_files::SiteTexts;
 use expectations::{is_slipped, names_no_site};
-use idle_settings::{Cause, Idle, Texts, idle_settings};
+use idle_settings::{Cause, Found, Idle, Taken, Texts, idle_settings};
 use lab_runs::run::read_sites;
-use lab_script::script::{Side, without_return};
+use lab_script::script::without_return;
 use run_listeners::LabFault;
 use screen_text::Escaped;
 use std::alloc::{AllocError, Global};
 use std::io::{self, Write};
-use tested_scripts::{NeverLine, Told, never_lines};
+use tested_scripts::{NeverLine, Told, lines_of, never_lines};
 
 /// Whether a comment has something to do with the name of a site: `%` stands behind the number signs, blanks and tabs that begin it.
 fn is_of_site(line: &str) -> bool {
@@ -24,9 +25,11 @@ fn is_of_site(line: &str) -> bool {
 /// What is said of a comment that looks as if it said something to a test, but doesn't; nothing of another.
 fn slip_of(line: &str) -> Option<&'static str> {
     if names_no_site(line) || (is_slipped(line) && is_of_site(line)) {
-        Some("names nothing: \"#% site PATH\" and \"#% peer PATH\" name sites")
+        Some(
+            "this looks like the name of a site, but isn't one: write \"#% site PATH\", \"#% peer PATH\" or \"#% cells N full\"",
+        )
     } else if is_slipped(line) {
-        Some("an expectation but for a blank? \"#> \", \"#! \" and \"#= \" begin one")
+        Some("this looks like an expectation, but isn't one: write \"#> \", \"#! \" or \"#= \"")
     } else {
         None
     }
@@ -64,7 +67,7 @@ pub(crate) fn say_bare_returns<E: Write>(
         if without_return(line).contains('\r') {
             writeln!(
                 errors,
-                "{}:{}: a carriage return without a line feed ends no line",
+                "{}:{}: a carriage return without a line feed doesn't end the line",
                 Escaped(path),
                 place.saturating_add(1)
             )?;
@@ -81,53 +84,114 @@ fn say_idle<E: Write>(path: &str, idle: Idle, errors: &mut E) -> io::Result<()> 
         Cause::Unused(chan) => {
             writeln!(
                 errors,
-                "{path}:{line}: never used: nothing comes of it on {chan}"
+                "{path}:{line}: this line has no effect: it is never used on {chan}"
             )
         }
         Cause::Again(chan) => {
             writeln!(
                 errors,
-                "{path}:{line}: said again before it is used: nothing comes of it on {chan}"
+                "{path}:{line}: this line has no effect: before it is used, another line replaces it on {chan}"
             )
         }
-        Cause::NoChannel(Side::First, chan) => {
-            writeln!(errors, "{path}:{line}: the site has no channel {chan}")
-        }
-        Cause::NoChannel(Side::Peer, chan) => {
-            writeln!(
-                errors,
-                "{path}:{line}: the second controller's site has no channel {chan}"
-            )
-        }
-        Cause::Unmet(unmet) => writeln!(errors, "{path}:{line}: nothing comes of it: {unmet}"),
+        Cause::Lacks(lack) => writeln!(errors, "{path}:{line}: {lack}"),
+        Cause::Unmet(unmet) => writeln!(errors, "{path}:{line}: this line has no effect: {unmet}"),
+        Cause::Input(lack) => writeln!(errors, "{path}:{line}: this line has no effect: {lack}"),
     }
 }
 
-/// Says which lines of a script come to nothing, and answers them.
+/// Says which call a line of a script opened under a number for which the switching centre asks.
+fn say_taken<E: Write>(path: &str, taken: Taken, errors: &mut E) -> io::Result<()> {
+    let Taken { line, call, asked } = taken;
+    writeln!(
+        errors,
+        "{}:{line}: opens call {call}, for which the switching centre asks in line {asked}",
+        Escaped(path)
+    )
+}
+
+/// Whether a line of a script that comes to nothing is told: it isn't said that this is meant, nor what comes of an input.
+fn is_told(lines: &[&str], idle: Idle) -> bool {
+    let is_known = match idle.cause {
+        Cause::Input(_) => expects_a_line(lines, idle.line),
+        Cause::Lacks(_) | Cause::Unused(_) | Cause::Again(_) | Cause::Unmet(_) => false,
+    };
+    !is_known && !is_meant(lines, idle.line)
+}
+
+/// Those of the lines of a script that come to nothing which are told.
+fn told_of(alloc: Global, script: &str, idle: Vec<Idle>) -> Result<Vec<Idle>, AllocError> {
+    let lines = lines_of(alloc, script)?;
+    let mut idle = idle;
+    idle.retain(|line| is_told(&lines, *line));
+    Ok(idle)
+}
+
+/// What was found of the lines of a script that have an effect, or none.
+#[derive(Drop)]
+pub(crate) struct Effects {
+    /// Lines that have none, and should.
+    pub idle: Vec<Idle>,
+    /// The numbers of lines that have one, where a comment says that they have none.
+    pub unmeant: Vec<usize>,
+}
+
+/// Says which of the lines of these numbers are meant to have no effect, as they have one, and answers them.
+fn say_unmeant<E: Write>(
+    alloc: Global,
+    path: &str,
+    script: &str,
+    effects: Vec<usize>,
+    errors: &mut E,
+) -> Result<Vec<usize>, LabFault> {
+    let lines = lines_of(alloc, script)?;
+    let mut effects = effects;
+    effects.retain(|line| is_meant(&lines, *line));
+    for line in &effects {
+        writeln!(
+            errors,
+            "{}:{line}: this line has an effect, but \"#- idle\" says that it has none",
+            Escaped(path)
+        )?;
+    }
+    Ok(effects)
+}
+
+/// Says which lines of a script have no effect and should, and which have one and shouldn't, and answers them; and which calls have
+/// a number for which the switching centre asks.
 pub(crate) fn say_idle_settings<E: Write>(
     alloc: Global,
     path: &str,
     texts: &SiteTexts,
     script: &str,
     errors: &mut E,
-) -> Result<Vec<Idle>, LabFault> {
+) -> Result<Effects, LabFault> {
     let sites = Texts {
         scratch: alloc,
         first: texts.first(),
         peer: texts.peer(),
     };
-    let found = idle_settings(alloc, sites, script)?;
-    for line in &found.idle {
+    let Found {
+        idle,
+        effects,
+        taken,
+        is_whole,
+    } = idle_settings(alloc, sites, script)?;
+    let idle = told_of(alloc, script, idle)?;
+    for line in &idle {
         say_idle(path, *line, errors)?;
     }
-    if !found.is_whole {
+    let unmeant = say_unmeant(alloc, path, script, effects, errors)?;
+    for call in &taken {
+        say_taken(path, *call, errors)?;
+    }
+    if !is_whole {
         writeln!(
             errors,
-            "{}: what settings come to isn't looked at: over 100,000 lines would be played for it",
+            "{}: settings without effect aren't looked for: over 100,000 lines would have to be played",
             Escaped(path)
         )?;
     }
-    Ok(found.idle)
+    Ok(Effects { idle, unmeant })
 }
 
 /// Says which comments of a script say that a line comes, or that none does, where none ever can be so, and answers them. Nothing is
@@ -146,8 +210,8 @@ pub(crate) fn say_never<'a, E: Write>(
     for never in &lines {
         let NeverLine { line, told, why } = *never;
         let kind = match told {
-            Told::Expected(_) => "never met",
-            Told::Refused(_) => "never missed",
+            Told::Expected(_) => "can't be met",
+            Told::Refused(_) => "is always met",
         };
         writeln!(errors, "{}:{line}: {kind}: {why}", Escaped(path))?;
     }

@@ -1,41 +1,62 @@
 //! The sites that a script names for itself.
 use crate::files::text_of;
-use crate::site_files::{GivenPaths, SitePaths, SiteTexts, say_reasons, site_texts};
-use crate::view_paths::is_same;
+use crate::site_files::{GivenPaths, SiteSource, SiteSources, SiteTexts, say_reasons, site_texts};
 use cell_table::SiteFault;
-use expectations::{peer_in, site_in};
+use expectations::{cells_in, peer_in, site_in};
 use lab_runs::run::read_sites;
 use lab_script::script::without_return;
 use run_listeners::LabFault;
+use run_views::is_same;
 use screen_text::Escaped;
+use site_text::UniformSite;
 use std::alloc::{AllocError, Global};
 use std::io::{self, Write};
 use std::rt::Files;
 use tested_scripts::Miss;
 
-/// What a script names first of a kind: the number of its line, counted from 1, and the path that stands there.
-type Named<'a> = Option<(usize, &'a str)>;
-
-/// The paths that a script names, as they stand in it.
+/// The site that a line of a script names.
 #[derive(Clone, Copy)]
-struct NamedPaths<'a> {
-    first: Named<'a>,
-    peer: Named<'a>,
+enum NamedSite<'a> {
+    /// A file, by its path as it stands there.
+    File(&'a str),
+    /// The cells that it says.
+    Cells(UniformSite),
 }
 
-/// A line of a script that names a site, or a peer's, that another one has named.
+/// What a script names first of a kind: the number of its line, counted from 1, and what stands there.
+type Named<T> = Option<(usize, T)>;
+
+/// The sites that a script names, as they stand in it.
 #[derive(Clone, Copy)]
-struct Twice {
-    line: usize,
-    /// The line that did before.
-    before: usize,
+struct NamedSites<'a> {
+    first: Named<NamedSite<'a>>,
+    peer: Named<&'a str>,
+}
+
+/// Why a script names no sites that it can be run over.
+#[derive(Clone, Copy)]
+enum NamesFault {
+    /// A line names a site, or a peer's, that another line before has named.
+    Twice { line: usize, before: usize },
+    /// A line says no cells that a site may have.
+    Cells { line: usize },
+}
+
+impl NamesFault {
+    /// The number of the line, counted from 1.
+    fn line(self) -> usize {
+        match self {
+            NamesFault::Twice { line, .. } => line,
+            NamesFault::Cells { line } => line,
+        }
+    }
 }
 
 /// The sites that are given for scripts that name none.
 #[derive(Drop)]
 pub(crate) struct GivenSites<'a> {
     pub paths: GivenPaths<'a>,
-    /// Their texts; `None` where each script has to name its own.
+    /// Their texts; `None` if each script has to name its own.
     pub texts: Option<SiteTexts>,
 }
 
@@ -50,25 +71,40 @@ pub(crate) enum ScriptSites<'g> {
     Unreadable(Miss<'static>),
 }
 
-/// What is named once a line was read that names this path, or none.
-fn named_by<'a>(named: Named<'a>, line: usize, path: Option<&'a str>) -> Result<Named<'a>, Twice> {
-    match (named, path) {
-        (Some((before, _)), Some(_)) => Err(Twice { line, before }),
-        (None, Some(path)) => Ok(Some((line, path))),
+/// What is named once a line was read that names this, or nothing.
+fn named_by<T: Copy>(
+    named: Named<T>,
+    line: usize,
+    found: Option<T>,
+) -> Result<Named<T>, NamesFault> {
+    match (named, found) {
+        (Some((before, _)), Some(_)) => Err(NamesFault::Twice { line, before }),
+        (None, Some(found)) => Ok(Some((line, found))),
         (named, None) => Ok(named),
     }
 }
 
-/// The paths that a script names, each once.
-fn named_in(script: &str) -> Result<NamedPaths<'_>, Twice> {
-    let mut named = NamedPaths {
+/// The site that a line of a script names, if it names one.
+fn named_site(line: &str, number: usize) -> Result<Option<NamedSite<'_>>, NamesFault> {
+    let Some(words) = cells_in(line) else {
+        return Ok(site_in(line).map(|path| NamedSite::File(path)));
+    };
+    match UniformSite::of_words(words) {
+        Some(site) => Ok(Some(NamedSite::Cells(site))),
+        None => Err(NamesFault::Cells { line: number }),
+    }
+}
+
+/// The sites that a script names, each once.
+fn named_in(script: &str) -> Result<NamedSites<'_>, NamesFault> {
+    let mut named = NamedSites {
         first: None,
         peer: None,
     };
     for (place, line) in script.split('\n').enumerate() {
         let number = place.saturating_add(1);
         let line = without_return(line);
-        named.first = named_by(named.first, number, site_in(line))?;
+        named.first = named_by(named.first, number, named_site(line, number)?)?;
         named.peer = named_by(named.peer, number, peer_in(line))?;
     }
     Ok(named)
@@ -86,10 +122,40 @@ fn beside(alloc: Global, script: &str, path: &str) -> Result<String, AllocError>
 fn named_beside(
     alloc: Global,
     script: &str,
-    named: Named<'_>,
+    named: Named<&str>,
 ) -> Result<Option<String>, AllocError> {
     match named {
         Some((_, path)) => Ok(Some(beside(alloc, script, path)?)),
+        None => Ok(None),
+    }
+}
+
+/// The site that a script names, its path seen from the script's folder.
+#[derive(Drop)]
+enum OwnSite {
+    File(String),
+    Cells(UniformSite),
+}
+
+impl OwnSite {
+    /// Where its text comes from.
+    fn source(&self) -> SiteSource<'_> {
+        match self {
+            OwnSite::File(path) => SiteSource::File(path.as_str()),
+            OwnSite::Cells(site) => SiteSource::Cells(*site),
+        }
+    }
+}
+
+/// The site that a script may name, as it is named beside that.
+fn own_site(
+    alloc: Global,
+    script: &str,
+    named: Named<NamedSite<'_>>,
+) -> Result<Option<OwnSite>, AllocError> {
+    match named {
+        Some((_, NamedSite::File(path))) => Ok(Some(OwnSite::File(beside(alloc, script, path)?))),
+        Some((_, NamedSite::Cells(site))) => Ok(Some(OwnSite::Cells(site))),
         None => Ok(None),
     }
 }
@@ -105,27 +171,32 @@ pub(crate) fn fault_of(alloc: Global, texts: &SiteTexts) -> Option<SiteFault> {
 /// The texts of sites that can be run over; where one can't be read `errors` says why.
 fn texts_at<R: Files + AllocGlobal, E: Write>(
     rt: &R,
-    paths: SitePaths<'_>,
+    sources: SiteSources<'_>,
     errors: &mut E,
 ) -> Result<ScriptSites<'static>, LabFault> {
-    let Some(texts) = site_texts(rt, paths, &mut io::sink(), errors)? else {
+    let Some(texts) = site_texts(rt, sources, &mut io::sink(), errors)? else {
         return Ok(ScriptSites::Unreadable(Miss::NoSite));
     };
     if fault_of(rt.alloc(), &texts).is_some() {
-        say_reasons(rt.alloc(), paths, &texts, errors)?;
+        say_reasons(rt.alloc(), sources, &texts, errors)?;
         return Ok(ScriptSites::Unreadable(Miss::NoSite));
     }
     Ok(ScriptSites::Named(texts))
 }
 
-/// Says that a script names a second site, or a second peer's: it can't be run over that.
-fn say_twice<E: Write>(path: &str, twice: Twice, errors: &mut E) -> io::Result<()> {
-    let Twice { line, before } = twice;
+/// Says why a script names no sites that it can be run over.
+fn say_names_fault<E: Write>(path: &str, fault: NamesFault, errors: &mut E) -> io::Result<()> {
     let path = Escaped(path);
-    writeln!(
-        errors,
-        "{path}:{line}: line {before} has named one: a script names one site, and one peer"
-    )
+    match fault {
+        NamesFault::Twice { line, before } => writeln!(
+            errors,
+            "{path}:{line}: line {before} names one already: a script names at most one site and one peer"
+        ),
+        NamesFault::Cells { line } => writeln!(
+            errors,
+            "{path}:{line}: behind \"#% cells\" stand a number from 1 to 64, and full or half"
+        ),
+    }
 }
 
 /// Says that a script has no site.
@@ -152,6 +223,14 @@ fn given_sites<'g, E: Write>(
     }
 }
 
+/// Where the site of a script comes from: from what it names, or else from the file of this path.
+fn source_of<'a>(own: &'a Option<OwnSite>, given: Option<&'a str>) -> Option<SiteSource<'a>> {
+    match own {
+        Some(own) => Some(own.source()),
+        None => given.map(|path| SiteSource::File(path)),
+    }
+}
+
 /// The sites that the script of a file names, from its folder on. One that names its own site has a peer only where it names
 /// that, too; one that names a peer alone is run over the given site and that. It may name each once.
 pub(crate) fn sites_of_script<'g, R: Files + AllocGlobal, E: Write>(
@@ -163,35 +242,34 @@ pub(crate) fn sites_of_script<'g, R: Files + AllocGlobal, E: Write>(
 ) -> Result<ScriptSites<'g>, LabFault> {
     let named = match named_in(script) {
         Ok(named) => named,
-        Err(twice) => {
-            say_twice(path, twice, errors)?;
-            return Ok(ScriptSites::Unreadable(Miss::Unreadable(twice.line)));
+        Err(fault) => {
+            say_names_fault(path, fault, errors)?;
+            return Ok(ScriptSites::Unreadable(Miss::Unreadable(fault.line())));
         }
     };
-    let own = named_beside(rt.alloc(), path, named.first)?;
+    let own = own_site(rt.alloc(), path, named.first)?;
     let peer = named_beside(rt.alloc(), path, named.peer)?;
-    let site = own.as_ref().map(|path| path.as_str());
-    match (site.or(given.paths.first), &peer) {
-        (Some(first), _) if own.is_some() || peer.is_some() => {
+    match source_of(&own, given.paths.first) {
+        Some(first) if own.is_some() || peer.is_some() => {
             let peer = peer.as_ref().map(|path| path.as_str());
-            texts_at(rt, SitePaths { first, peer }, errors)
+            texts_at(rt, SiteSources { first, peer }, errors)
         }
         _ => Ok(given_sites(given, path, errors)?),
     }
 }
 
-/// The paths of the sites that a script names.
+/// The sites that a script names, from its folder on.
 #[derive(Drop)]
-pub(crate) struct NamedSites {
-    first: String,
+pub(crate) struct OwnSites {
+    first: OwnSite,
     peer: Option<String>,
 }
 
-impl NamedSites {
-    /// The paths of a run over them.
-    pub(crate) fn paths(&self) -> SitePaths<'_> {
-        SitePaths {
-            first: &self.first,
+impl OwnSites {
+    /// Where their texts come from.
+    pub(crate) fn sources(&self) -> SiteSources<'_> {
+        SiteSources {
+            first: self.first.source(),
             peer: self.peer.as_ref().map(|path| path.as_str()),
         }
     }
@@ -201,7 +279,7 @@ impl NamedSites {
 fn peer_beside(
     alloc: Global,
     script: &str,
-    named: Named<'_>,
+    named: Named<&str>,
     given: Option<&str>,
 ) -> Result<Option<String>, AllocError> {
     match (named, given) {
@@ -211,7 +289,7 @@ fn peer_beside(
     }
 }
 
-/// The paths of the sites that the script of a file names, from its folder on, where none is given for it, or a peer's alone;
+/// The sites that the script of a file names, from its folder on, where none is given for it, or a peer's alone;
 /// nothing where the file can't be read, and then its path was printed, or where it names no site, or one twice; and on `errors`
 /// why.
 pub(crate) fn sites_named_by<R: Files + AllocGlobal, W: Write, E: Write>(
@@ -220,28 +298,28 @@ pub(crate) fn sites_named_by<R: Files + AllocGlobal, W: Write, E: Write>(
     script: &str,
     out: &mut W,
     errors: &mut E,
-) -> Result<Option<NamedSites>, LabFault> {
+) -> Result<Option<OwnSites>, LabFault> {
     let alloc = rt.alloc();
     let Some(text) = text_of(rt, script, out, errors)? else {
         return Ok(None);
     };
     let named = match named_in(&text) {
         Ok(named) => named,
-        Err(twice) => {
-            say_twice(script, twice, errors)?;
+        Err(fault) => {
+            say_names_fault(script, fault, errors)?;
             return Ok(None);
         }
     };
-    let Some(first) = named_beside(alloc, script, named.first)? else {
+    let Some(first) = own_site(alloc, script, named.first)? else {
         say_unnamed(script, errors)?;
         return Ok(None);
     };
     let peer = peer_beside(alloc, script, named.peer, peer)?;
-    Ok(Some(NamedSites { first, peer }))
+    Ok(Some(OwnSites { first, peer }))
 }
 
-/// Says that a line of a script names another site than this, if it does.
-fn say_other_site<R: Files + AllocGlobal, E: Write>(
+/// Says that a line of a script names the file of another site than this, if it does.
+fn say_other_file<R: Files + AllocGlobal, E: Write>(
     rt: &R,
     site: &str,
     path: &str,
@@ -252,13 +330,30 @@ fn say_other_site<R: Files + AllocGlobal, E: Write>(
     if !is_same(rt, site, &named) {
         writeln!(
             errors,
-            "{}:{line}: names the site {}, and is run over {}",
+            "{}:{line}: names the site {}, but is run over {}",
             Escaped(path),
             Escaped(&named),
             Escaped(site)
         )?;
     }
     Ok(())
+}
+
+/// Says that a line of a script says the cells of its site, and that it is run over the file of another.
+fn say_other_cells<E: Write>(
+    site: &str,
+    path: &str,
+    line: usize,
+    words: &str,
+    errors: &mut E,
+) -> io::Result<()> {
+    writeln!(
+        errors,
+        "{}:{line}: names the site of cells {}, but is run over {}",
+        Escaped(path),
+        Escaped(words),
+        Escaped(site)
+    )
 }
 
 /// Tells which other site a script names for its peer; there may be none.
@@ -274,14 +369,14 @@ fn say_other_peer<R: Files + AllocGlobal, E: Write>(
         Some(peer) if is_same(rt, peer, &named) => Ok(()),
         Some(peer) => Ok(writeln!(
             errors,
-            "{}:{line}: names the peer {}, and is run beside {}",
+            "{}:{line}: names the peer {}, but its peer is {}",
             Escaped(path),
             Escaped(&named),
             Escaped(peer)
         )?),
         None => Ok(writeln!(
             errors,
-            "{}:{line}: names the peer {}, and is run without one",
+            "{}:{line}: names the peer {}, but is run without a peer",
             Escaped(path),
             Escaped(&named)
         )?),
@@ -292,7 +387,7 @@ fn say_other_peer<R: Files + AllocGlobal, E: Write>(
 /// names where no site is given.
 pub(crate) fn say_other_sites<R: Files + AllocGlobal, E: Write>(
     rt: &R,
-    given: SitePaths<'_>,
+    sources: SiteSources<'_>,
     path: &str,
     script: &str,
     errors: &mut E,
@@ -300,11 +395,14 @@ pub(crate) fn say_other_sites<R: Files + AllocGlobal, E: Write>(
     for (place, line) in script.split('\n').enumerate() {
         let number = place.saturating_add(1);
         let line = without_return(line);
-        if let Some(name) = site_in(line) {
-            say_other_site(rt, given.first, path, (number, name), errors)?;
+        if let (Some(site), Some(name)) = (sources.first.path(), site_in(line)) {
+            say_other_file(rt, site, path, (number, name), errors)?;
+        }
+        if let (Some(site), Some(words)) = (sources.first.path(), cells_in(line)) {
+            say_other_cells(site, path, number, words, errors)?;
         }
         if let Some(name) = peer_in(line) {
-            say_other_peer(rt, given.peer, path, (number, name), errors)?;
+            say_other_peer(rt, sources.peer, path, (number, name), errors)?;
         }
     }
     Ok(())

@@ -24,7 +24,7 @@ use storms::storm::run_storm;
 use storms::trip::Shortage;
 pub use storms::watch::{Reached, Unwatched, Watch};
 
-/// Prints the six lines of a storm that came to its end, as [`storm_run`] does, and says how the work ended.
+/// Prints the six lines of a storm that has ended, as [`storm_run`] does, and answers with the command's status.
 pub fn print_figures<W: Write>(out: &mut W, figures: Figures) -> Result<Status, LabFault>
     ensures status { IfOk result (λ status. status ≡ audit_status figures.audit) }
     ensures printed { OnOk result (Appends (W.contents out.old) (W.contents out.new) (storm_text figures)) }
@@ -50,17 +50,17 @@ fn print_outcome<W: Write>(out: &mut W, outcome: Outcome) -> Result<Status, LabF
     Ok(Status::Refused)
 }
 
-/// Runs a storm over a site that is given as a text, with so many workers, each on a thread of its own, and so many calls, and
-/// prints what came of it to `out`: five lines, `calls`, `attempts`, `completed`, `undone` and `channels in use`, each with
-/// a number, and `audit same`, where all attempts that were undone and are settled, taken out of the history of the desk
-/// together, leave the same book and the same replies; the answer is `Done` then. Where they don't, the last line is
-/// `audit differs`, and the answer `Differs`. What the calls do is said by [`run_storm`].
+/// Runs a storm of `calls` calls over a site that is given as a text, with `workers` workers, each on a thread of its own.
+/// Prints six lines to `out`: `calls`, `attempts`, `completed`, `undone` and `channels in use`, each with a number, and
+/// `audit same` if the book and the replies stay the same when all undone and settled attempts are taken out of the desk's
+/// history together. The answer is `Done` then. Otherwise the last line is `audit differs`, and the answer is `Differs`.
+/// [`run_storm`] says what the calls do.
 ///
-/// A text that describes no site prints what [`lab_run`](crate::run::lab_run) prints of it. Where the site has fewer than two
-/// cells, or a cell too few traffic channels, `site too small` is printed, and where the office of the workers fails,
-/// `office`; then nothing else is printed, and the answer is `Refused`. `scratch` serves while the site is read, `alloc` for
-/// all else. Once memory was refused (`NoMemory`), be it to a worker, or `out` can't be written to (`Write`), nothing more is
-/// printed. All threads that were started have ended when it returns.
+/// If the text describes no site, the line that [`lab_run`](crate::run::lab_run) prints for it is printed. If the site has
+/// fewer than two cells, or a cell has too few traffic channels, `site too small` is printed; if the office of the workers
+/// fails, `office`. Nothing else is printed in these cases, and the answer is `Refused`. `scratch` serves while the site is
+/// read, `alloc` for all else. Once memory was refused to anybody (`NoMemory`), or `out` can't be written to (`Write`),
+/// nothing more is printed. All threads that were started have ended when this returns.
 pub fn storm_run<
     R: Threads + Wait + Clone + Drop + Send + 'static,
     A: Allocator + Copy + Send + Sync + 'static,
@@ -94,8 +94,8 @@ pub struct StormJob<'a> {
     pub size: StormSize,
 }
 
-/// The storm that the words of a command line ask for, those after the program's own name; nothing where they ask for
-/// anything else, or are refused.
+/// The storm that the words of a command line ask for, those after the program's own name; nothing if they ask for anything
+/// else, or are refused.
 pub fn storm_asked<'a>(
     alloc: Global,
     words: &'a [&'a str],
@@ -124,9 +124,9 @@ fn say_office<E: Write>(fault: OfficeFault, errors: &mut E) -> Result<(), LabFau
     Ok(())
 }
 
-/// Runs a storm over the site of a file, prints what came of it, as [`storm_run`] does of a text, and tells `watch` how far
-/// it is. The file is refused as by [`run_files`](crate::files::run_files). One line on `errors` says why nothing was run, or
-/// how the office failed.
+/// Runs a storm over the site of a file, prints the result as [`storm_run`] does, and tells `watch` of its progress. The
+/// file is refused as by [`run_files`](crate::files::run_files). If nothing was run, or the office failed, one line on
+/// `errors` says why.
 pub fn storm_file<
     R: Files + AllocGlobal + Threads + Wait + Clone + Drop + Send + 'static,
     V: Watch,

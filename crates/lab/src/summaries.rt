@@ -1,4 +1,4 @@
-//! What a trace tells, counted.
+//! The counts of a trace.
 use crate::journal_text::{behind_head, trace_of};
 use attempt_lists::{first_unmarked, is_of_two};
 use lab_runs::run::Status;
@@ -37,19 +37,19 @@ fn refuse_line<W: Write, E: Write>(
     errors: &mut E,
 ) -> Result<Status, LabFault> {
     let why = if is_unmarked {
-        "in the trace of two controllers 1: or 2: stands before this line"
+        "in a trace of two controllers this line has to begin with 1: or 2:"
     } else {
-        "no line of a trace, as run prints it"
+        "run prints no such line"
     };
     writeln!(errors, "{}:{number}: {why}", Escaped(path))?;
     writeln!(out, "line {number}")?;
     Ok(Status::Refused)
 }
 
-/// Prints what the trace of a file tells, counted for each cell and in all ([`summary_of_trace`]), in words or as one JSON
-/// object; of a journal's file what stands behind its head, whose book came to be before. The file is refused as by
-/// [`rewind_files`](crate::trace_files::rewind_files). A line that begins as one that is counted, and isn't one, is refused:
-/// `line` and its number are printed, and one line on `errors` says so.
+/// Prints the counts of the trace of a file, in all and for each cell ([`summary_of_trace`]), in words or as one JSON
+/// object. In a journal's file the head isn't counted: its book is from before. The file is refused as by
+/// [`rewind_files`](crate::trace_files::rewind_files). If a line begins like one that is counted, but isn't one, it is
+/// refused: `line` and its number are printed, and one line on `errors` says so.
 pub fn summary_file<R: Files + AllocGlobal, W: Write, E: Write>(
     rt: &R,
     trace: TracePath<'_>,

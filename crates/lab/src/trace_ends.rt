@@ -1,6 +1,6 @@
 //! Whether a text is a trace, and whether it has its end.
 //!
-//! No clause says what is printed: that is shown by tests.
+//! No clause says what is printed: tests show it.
 use lab_script::script::without_return;
 use lab_words::{TraceEnd, TracePath};
 use screen_text::Escaped;
@@ -73,7 +73,7 @@ impl Progress {
 
 /// How far the lines of a controller have come behind one more of them.
 fn advanced(progress: Progress, line: &str) -> Progress {
-    if line.starts_with("in ") {
+    if line.starts_with("in ") || line.starts_with("for ") {
         Progress::Going
     } else if is_end(line) {
         Progress::Ended
@@ -146,7 +146,7 @@ fn ending_of(text: &str) -> Ending {
 fn refuse_other<W: Write, E: Write>(path: &str, out: &mut W, errors: &mut E) -> io::Result<bool> {
     writeln!(
         errors,
-        "{}: no line is one of a trace, as run prints it",
+        "{}: this isn't a trace, as run prints it",
         Escaped(path)
     )?;
     writeln!(out, "no trace")?;
@@ -157,7 +157,7 @@ fn refuse_other<W: Write, E: Write>(path: &str, out: &mut W, errors: &mut E) -> 
 fn refuse_open<W: Write, E: Write>(path: &str, out: &mut W, errors: &mut E) -> io::Result<bool> {
     writeln!(
         errors,
-        "{}: no line end behind the last input: the trace is cut, or its run isn't over (--cut reads it all the same)",
+        "{}: no line end follows the last input: the trace is cut off, or its run isn't over (--cut reads it anyway)",
         Escaped(path)
     )?;
     writeln!(out, "no end")?;

@@ -1,7 +1,7 @@
-//! Attempts that are taken out of the traces in files.
+//! Undone attempts, taken out of traces in files.
 use crate::files::text_of;
 use crate::journal_text::trace_of;
-use crate::site_files::{SitePaths, SiteTexts, say_reasons, say_site, site_texts};
+use crate::site_files::{SitePaths, SiteTexts, in_files, say_reasons, say_site, site_texts};
 use attempt_lists::{first_unmarked, is_of_two, list_run, side_text};
 use audits::traced::audit_run;
 use lab_runs::run::Status;
@@ -22,7 +22,7 @@ struct Texts {
     trace: String,
 }
 
-/// The texts of a site's file and of a trace's, of which the site's is read first; nothing where one can't be read or the trace
+/// The texts of a site's file and of a trace's, of which the site's is read first; nothing if one can't be read or the trace
 /// is refused ([`trace_of`]), and then the first such was printed, and on `errors` why.
 fn texts_of<R: Files + AllocGlobal, W: Write, E: Write>(
     rt: &R,
@@ -59,7 +59,7 @@ fn say_refused<E: Write>(
 fn say_no_attempt<E: Write>(path: &str, line: usize, errors: &mut E) -> io::Result<()> {
     writeln!(
         errors,
-        "{}: no attempt that is undone later opens in line {line}",
+        "{}: line {line} doesn't open an attempt that is undone later",
         Escaped(path)
     )
 }
@@ -69,10 +69,10 @@ fn kept_whole(ended: Result<Status, LabFault>) -> Result<Status, LabFault> {
     ended.map_err(|_| LabFault::NoMemory)
 }
 
-/// Takes an undone attempt out of the trace of one file, over the site of another, and prints what stays, as
-/// [`rewind_run`] does of texts; nothing where memory is refused. Files and the site are refused as
-/// [`run_files`](crate::files::run_files) refuses them. So is a trace with a byte order mark in front (`line 1`), a text that
-/// is no trace (`no trace`), and a trace that lacks the end which it has to have (`no end`).
+/// Takes an undone attempt out of the trace of one file, over the site of another, and prints what stays, as [`rewind_run`]
+/// does with texts. If memory is refused, nothing is printed. Files and the site are refused as by
+/// [`run_files`](crate::files::run_files). So are a trace that begins with a byte order mark (`line 1`), a text that is no
+/// trace (`no trace`), and a trace that lacks its end but needs it (`no end`).
 pub fn rewind_files<R: Files + AllocGlobal, W: Write, E: Write>(
     rt: &R,
     site: &str,
@@ -104,8 +104,8 @@ struct SidesTexts {
     trace: String,
 }
 
-/// The texts of the sites' files and of a trace's, of which those of the sites are read first; nothing where one can't be read or
-/// the trace is refused ([`trace_of`]), and then the first such was printed, and on `errors` why.
+/// The texts of the sites' files and of a trace's, of which those of the sites are read first; nothing if one can't be read
+/// or the trace is refused ([`trace_of`]), and then the first such was printed, and on `errors` why.
 fn sides_texts<R: Files + AllocGlobal, W: Write, E: Write>(
     rt: &R,
     sites: SitePaths<'_>,
@@ -113,7 +113,7 @@ fn sides_texts<R: Files + AllocGlobal, W: Write, E: Write>(
     out: &mut W,
     errors: &mut E,
 ) -> Result<Option<SidesTexts>, LabFault> {
-    let Some(sites) = site_texts(rt, sites, out, errors)? else {
+    let Some(sites) = site_texts(rt, in_files(sites), out, errors)? else {
         return Ok(None);
     };
     let Some(trace) = trace_of(rt, trace, out, errors)? else {
@@ -129,7 +129,7 @@ fn say_unmarked<E: Write>(path: &str, trace: &str, errors: &mut E) -> io::Result
     };
     writeln!(
         errors,
-        "{}:{number}: in the trace of two controllers 1: or 2: stands before this line",
+        "{}:{number}: in a trace of two controllers this line has to begin with 1: or 2:",
         Escaped(path)
     )?;
     Ok(true)
@@ -156,7 +156,7 @@ fn say_refused_sides<E: Write>(
     texts: &SidesTexts,
     errors: &mut E,
 ) -> Result<bool, LabFault> {
-    if say_reasons(alloc, sites, &texts.sites, errors)? {
+    if say_reasons(alloc, in_files(sites), &texts.sites, errors)? {
         return Ok(true);
     }
     let (site, trace) = (texts.sites.first(), texts.trace.as_str());
@@ -172,8 +172,9 @@ fn say_refused_sides<E: Write>(
     }
 }
 
-/// Takes each undone attempt out of the trace of one file by itself, over the sites of others, and prints a line for each, as
-/// [`list_run`] does of texts; nothing where memory is refused. Files and sites are refused as by [`rewind_files`].
+/// Takes each undone attempt out of the trace of one file, one at a time, over the sites of others, and prints a line for
+/// each, as [`list_run`] does with texts. If memory is refused, nothing is printed. Files and sites are refused as by
+/// [`rewind_files`].
 pub fn rewind_all_files<R: Files + AllocGlobal, W: Write, E: Write>(
     rt: &R,
     sites: SitePaths<'_>,
@@ -196,8 +197,9 @@ pub fn rewind_all_files<R: Files + AllocGlobal, W: Write, E: Write>(
     Ok(status)
 }
 
-/// Takes all settled attempts out of the trace of one file, over the site of another, and prints what that comes to, as
-/// [`audit_run`] does of texts; nothing where memory is refused. Files and the site are refused as by [`rewind_files`].
+/// Takes all settled attempts out of the trace of one file, over the site of another, and prints the result, as
+/// [`audit_run`] does with texts. If memory is refused, nothing is printed. Files and the site are refused as by
+/// [`rewind_files`].
 pub fn audit_files<R: Files + AllocGlobal, W: Write, E: Write>(
     rt: &R,
     site: &str,

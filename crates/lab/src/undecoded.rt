@@ -1,4 +1,4 @@
-//! Why octets, or a text that is to write some, are no message, in words.
+//! Why octets, or a hexadecimal text, are no message, in words.
 use crate::decoded::Decoded;
 use exchange::Bad;
 use explanations::{Question, answer_to};
@@ -32,14 +32,14 @@ fn say_fault<E: Write>(bad: Bad, errors: &mut E) -> Result<(), LabFault> {
 
 /// Says on `errors` why a text isn't hexadecimal.
 fn say_not_hex<E: Write>(text: &str, errors: &mut E) -> Result<(), LabFault> {
-    let digits = "each octet is two hexadecimal digits, and nothing stands between them";
+    let digits = "an octet is two hexadecimal digits, and nothing may separate octets";
     match no_digit(text) {
         Some((place, found)) => writeln!(
             errors,
             "{digits}: character {place} is '{}'",
             Escaped(found)
         )?,
-        None => writeln!(errors, "{digits}: the last has one")?,
+        None => writeln!(errors, "{digits}: the last octet has only one")?,
     }
     Ok(())
 }

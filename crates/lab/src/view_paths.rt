@@ -1,49 +1,22 @@
-//! The files that a run writes to.
-use crate::site_files::SitePaths;
+//! The files to which a run writes.
+use crate::site_files::SiteSources;
 use lab_runs::run::Status;
 use run_listeners::LabFault;
+use run_views::{first_path, is_same};
 use screen_text::Escaped;
-use std::fs;
+use std::alloc::AllocError;
 use std::io::Write;
-use std::os::unix::fs::MetadataExt;
 use std::rt::Files;
 use view_options::Views;
 
-/// What stands under a path.
-#[derive(Clone, Copy)]
-enum Place {
-    /// A regular file, whatever its path: its device, and its number there.
-    Regular(u64, u64),
-    /// A device, a pipe, a folder.
-    Other,
-    /// Nothing, or nobody says.
-    Unknown,
-}
-
-/// What stands under a path. Files that a test stands in for have no number.
-fn place_of<R: Files>(rt: &R, path: &str) -> Place {
-    match fs::metadata(rt, path) {
-        Ok(metadata) if metadata.ino() == 0 => Place::Unknown,
-        Ok(metadata) if metadata.is_file() => Place::Regular(metadata.dev(), metadata.ino()),
-        Ok(_) => Place::Other,
-        Err(_) => Place::Unknown,
-    }
-}
-
-/// Whether two paths are those of one regular file. Where that isn't known, paths are compared.
-pub(crate) fn is_same<R: Files>(rt: &R, one: &str, other: &str) -> bool {
-    match (place_of(rt, one), place_of(rt, other)) {
-        (Place::Regular(device, number), Place::Regular(other_device, other_number)) => {
-            device == other_device && number == other_number
-        }
-        (Place::Unknown, _) | (_, Place::Unknown) => one == other,
-        (Place::Other, _) | (_, Place::Other) => false,
-    }
-}
-
 /// Whether a run reads the file of this path.
-fn is_read<R: Files>(rt: &R, sites: SitePaths<'_>, script: &str, path: &str) -> bool {
-    if is_same(rt, sites.first, path) || is_same(rt, script, path) {
+fn is_read<R: Files>(rt: &R, sites: SiteSources<'_>, script: &str, path: &str) -> bool {
+    if is_same(rt, script, path) {
+        return true;
+    }
+    if let Some(site) = sites.first.path()
+        && is_same(rt, site, path)
+    {
         return true;
     }
     match sites.peer {
@@ -52,25 +25,30 @@ fn is_read<R: Files>(rt: &R, sites: SitePaths<'_>, script: &str, path: &str) -> 
     }
 }
 
-/// The path of the capture or else of the chart, where another file of the run is the same: that would be lost.
-pub(crate) fn named_twice<'a, R: Files>(
+/// The path of the capture, or else of the chart or of its first page, where another file of the run is the same: that would be
+/// lost.
+pub(crate) fn named_twice<R: Files + AllocGlobal>(
     rt: &R,
-    sites: SitePaths<'_>,
+    sites: SiteSources<'_>,
     script: &str,
-    views: &Views<'a>,
-) -> Option<&'a str> {
+    views: &Views<'_>,
+) -> Result<Option<String>, AllocError> {
+    let alloc = rt.alloc();
     if let Some(pcap) = views.pcap {
         if is_read(rt, sites, script, pcap) {
-            return Some(pcap);
+            return Ok(Some(String::from_str(alloc, pcap)?));
         }
     }
-    let chart = views.chart?;
-    if is_read(rt, sites, script, chart) {
-        return Some(chart);
+    let Some(chart) = views.chart else {
+        return Ok(None);
+    };
+    let chart = first_path(alloc, chart)?;
+    if is_read(rt, sites, script, &chart) {
+        return Ok(Some(chart));
     }
     match views.pcap {
-        Some(pcap) if is_same(rt, pcap, chart) => Some(chart),
-        Some(_) | None => None,
+        Some(pcap) if is_same(rt, pcap, &chart) => Ok(Some(chart)),
+        Some(_) | None => Ok(None),
     }
 }
 

@@ -16,7 +16,7 @@ use Rattle.ho_procedure.specs.Plan.{Plan, Ends, At}
 use Rattle.ho_procedure.specs.Handling.{IsRow, IsUndecoded, Handles}
 use Rattle.lab_script.specs.declared.side.Side.{Side}
 use Rattle.lab_script.specs.declared.script.Given.{Given}
-use Rattle.lab_script.specs.declared.script.Given.TheVariants.{Input, Attach, Set, HangUp, Ask, MobileOf}
+use Rattle.lab_script.specs.declared.script.Given.TheVariants.{Input, Attach, Set, HangUp, Ask, MobileOf, Restart}
 use Rattle.lab_script.specs.declared.script.Item.{Item}
 use Rattle.lab_script.specs.Sides.{number_of}
 use Rattle.run_listeners.specs.declared.turn.Source.{Source}
@@ -107,6 +107,7 @@ GivesTo s (Set setting) inputs = inputs ≡ []
 GivesTo s (HangUp call) inputs = inputs ≡ []
 GivesTo s (Ask asked) inputs = AreAsked s.0.desk asked inputs
 GivesTo s (MobileOf call habit) inputs = inputs ≡ []
+GivesTo s (Restart restart) inputs = inputs ≡ []
 
 -- what a line gives the one of some controllers that it is for
 pub record Gives {A : Type 0} (all : List Position) (item : Item A) (inputs : List (Side × Inbound A)) : Type 0 where
@@ -132,3 +133,4 @@ is_attach (Set setting) = false
 is_attach (HangUp call) = false
 is_attach (Ask asked) = false
 is_attach (MobileOf call habit) = false
+is_attach (Restart restart) = false

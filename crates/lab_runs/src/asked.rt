@@ -1,4 +1,4 @@
-//! Inputs that a line asks of its controller's book: reports and answers of stations about channels that the line doesn't
+//! Inputs that a line finds by its controller's book: reports, and answers of stations, about channels that the line doesn't
 //! name.
 ghost use Rattle.std.specs.Prelude.{◌≡◌, ◌<◌, ◌+◌, ◌++◌, [], replicate, IfOk, OnOk, OnErr};
 ghost use Rattle.cell_table.specs.Site.{channels};
@@ -16,7 +16,7 @@ use radio_desk::desk::Desk;
 use run_listeners::Unmet;
 use std::alloc::{AllocError, Allocator};
 
-/// What a line gives that asks the book: this, or why nothing comes of it; or memory was refused.
+/// The result of a line that asks the book: what it gives, or why it has no effect; or memory was refused.
 pub type Met<T> = Result<Result<T, Unmet>, AllocError>;
 
 /// What a station says of a channel.

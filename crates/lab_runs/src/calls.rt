@@ -1,4 +1,4 @@
-//! The channels of calls, by what a desk has of them.
+//! The channels of calls, by a desk's book and history.
 ghost use Rattle.std.specs.Prelude.{◌≡◌, ◌<◌, ◌+◌, ◌-◌, ◌||◌, ℕ, true, drop, IfOk, IfSome};
 ghost use Rattle.std.specs.List.{list_any};
 ghost use Rattle.std.specs.Option.{option_or};
@@ -43,7 +43,7 @@ pub(crate) fn serving_channel<A: Allocator + Copy>(
     }
 }
 
-/// The channel that a record's call is to move to; where it isn't, the one that it is on.
+/// The channel that a record's call is to move to; if it isn't, the one that it is on.
 fn target_of(known: CallRecord) -> Option<ChanId>
     ensures { result ≡ said.target_of known }
 {
@@ -53,7 +53,7 @@ fn target_of(known: CallRecord) -> Option<ChanId>
     }
 }
 
-/// The channel that a call is to move to; where it isn't, the one that it is on.
+/// The channel that a call is to move to; if it isn't, the one that it is on.
 fn target_channel<A: Allocator + Copy>(book: &Book<A>, call: u16) -> Result<ChanId, Unmet>
     ensures channel { result_ok result ≡ said.target_channel (record_of book.now call) }
     ensures timeslot { IfOk result (λ chan. chan.tn < 8) }

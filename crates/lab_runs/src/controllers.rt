@@ -1,4 +1,4 @@
-//! The controllers of a course: that of the first site, and the peer's where there is one.
+//! The controllers of a course: that of the first site, and the peer's if there is one.
 ghost use Rattle.std.specs.Prelude.{◌≡◌, [], ◌∷◌, Some, true, false, is_some, length, option_map, slice_get, IfOk, OnOk, OnErr};
 ghost use Rattle.lab_script.specs.Sides.{is_there, number_of};
 ghost use Rattle.lab_runs.specs.Asked.{AreAsked};
@@ -22,7 +22,7 @@ use std::alloc::{AllocError, Allocator, Global};
 use std::sync::Arc;
 use trace_text::trace::Mark;
 
-/// One controller or two: the first site's, and the peer's where there is one.
+/// One controller or two: the first site's, and the peer's if there is one.
 #[derive(Drop)]
 pub struct Controllers<A: Allocator + Copy = Global> {
     pub first: Controller<Noting<A>, A>,
@@ -76,7 +76,7 @@ fn book_of<A: Allocator + Copy>(controller: &Controller<Noting<A>, A>) -> &Book<
 }
 
 impl<A: Allocator + Copy> Controllers<A> {
-    /// Controllers that were given nothing yet, over empty books, of a site and of a peer's where there is one.
+    /// Controllers that were given nothing yet, over empty books, of a site and of a peer's if there is one.
     pub(crate) fn new(
         alloc: A,
         site: &Arc<Site<A>, A>,
@@ -117,7 +117,7 @@ impl<A: Allocator + Copy> Controllers<A> {
         self.first.view().desk().len()
     }
 
-    /// The desk of the first begins anew with today's book. Where memory is refused, nothing changes.
+    /// The desk of the first begins anew with today's book. If memory is refused, nothing changes.
     pub(crate) fn begin_anew(&mut self) -> Result<(), AllocError>
         ensures anew { OnOk result (IsAnewAt self.old.first self.new.first) }
         ensures unchanged { OnErr result (self.new.first ≡ self.old.first) }

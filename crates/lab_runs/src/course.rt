@@ -9,7 +9,7 @@ use crate::controllers::Controllers;
 use crate::simulators::Simulators;
 use crate::turn::{Spare, TurnFault};
 use crate::waiting::{Arrival, Waiting};
-use bts_model::{Act, Habit, Setting};
+use bts_model::{Act, Habit, Restart, Setting};
 use cell_table::Site;
 use exchange::Inbound;
 use lab_script::asked::Asked;
@@ -24,7 +24,7 @@ use std::sync::Arc;
 /// How many answers of simulators are handled for one line of a script.
 pub const MOST_ANSWERS: u16 = 10_000;
 
-/// Controllers, the simulators around them once a script attached them, and what came of each input.
+/// Controllers, the simulators around them once a script has attached them, and what came of each input.
 #[derive(Drop)]
 pub struct Course<A: Allocator + Copy = Global> {
     sites: Vec<Arc<Site<A>, A>, A>,
@@ -38,8 +38,8 @@ pub struct Course<A: Allocator + Copy = Global> {
     alloc: A,
 }
 
-/// What came of a script: each input that was handled, in their order, with what the controller that it was for asked and
-/// answered, and the controllers as they are at the end.
+/// What came of a script: each input that was handled, in order, with what its controller asked and answered, and the
+/// controllers as they are at the end.
 #[derive(Drop)]
 pub struct Run<A: Allocator + Copy = Global> {
     pub turns: Vec<Turn<A>, A>,
@@ -61,7 +61,7 @@ fn sites_of<A: Allocator + Copy>(
 }
 
 impl<A: Allocator + Copy> Course<A> {
-    /// Controllers that were given nothing yet, over empty books, of a site and of a peer's where there is one.
+    /// Controllers that were given nothing yet, over empty books, of a site and of a peer's if there is one.
     pub(crate) fn new(
         alloc: A,
         site: Arc<Site<A>, A>,
@@ -84,7 +84,7 @@ impl<A: Allocator + Copy> Course<A> {
         })
     }
 
-    /// One controller over a book, which was given nothing yet.
+    /// One controller over a book, which has been given nothing yet.
     pub fn over(alloc: A, book: Book<A>) -> Result<Course<A>, AllocError>
         ensures opening { IfOk result (λ course. BeginsWith book course.controllers.first) }
         ensures peer { IfOk result (λ course. has_peer course ≡ false) }
@@ -101,7 +101,7 @@ impl<A: Allocator + Copy> Course<A> {
         })
     }
 
-    /// The desk of the first controller begins anew with today's book. Where memory is refused, no desk changes.
+    /// The desk of the first controller begins anew with today's book. If memory is refused, no desk changes.
     pub fn begin_anew(&mut self) -> Result<(), AllocError>
         ensures anew { OnOk result (IsAnewAt self.old.controllers.first self.new.controllers.first) }
         ensures unchanged { OnErr result (self.new.controllers.first ≡ self.old.controllers.first) }
@@ -111,7 +111,7 @@ impl<A: Allocator + Copy> Course<A> {
         self.controllers.begin_anew()
     }
 
-    /// Drops what came of each input so far. The lists of the last turn serve for the next one.
+    /// Drops what came of each input so far. The lists of the last turn are used again for the next one.
     pub fn forget_turns(&mut self)
         ensures turns { self.new.turns.items ≡ [] }
         ensures controllers { self.new.controllers ≡ self.old.controllers }
@@ -212,6 +212,17 @@ impl<A: Allocator + Copy> Course<A> {
         }
     }
 
+    /// A simulated station restarts. What its controller hears of that waits.
+    fn restart(&mut self, restart: Restart, waiting: &mut Waiting<A>) -> Result<(), AllocError>
+        ensures went { OnOk result (Went [] self.old self.new) }
+        ensures sim { OnOk result (has_simulators self.new ≡ has_simulators self.old) }
+    {
+        match &mut self.simulators {
+            Some(simulators) => simulators.restart(restart, waiting),
+            None => Ok(()),
+        }
+    }
+
     /// The simulated switching centre hangs up a call. What it sends then waits.
     fn hang_up(&self, side: Side, call: u16, waiting: &mut Waiting<A>) -> Result<(), AllocError> {
         match &self.simulators {
@@ -220,8 +231,8 @@ impl<A: Allocator + Copy> Course<A> {
         }
     }
 
-    /// A controller that is there handles an input, and a listener is told what came of it, or what is owed where memory
-    /// is refused. What simulators answer waits behind all else.
+    /// A controller that is there handles an input, and a listener is told what came of it, or what is owed if memory is
+    /// refused. What simulators answer waits behind all else.
     fn handle<L: Listener<A>>(
         &mut self,
         side: Side,
@@ -254,8 +265,8 @@ impl<A: Allocator + Copy> Course<A> {
         told
     }
 
-    /// Handles what a simulator sends. The simulators know the controllers that are there and no other: what was for
-    /// another is passed over.
+    /// Handles what a simulator sends. Simulators only know the controllers that are there. Messages for any other are
+    /// skipped.
     pub fn arrive<L: Listener<A>>(
         &mut self,
         arrival: Arrival<A>,
@@ -296,7 +307,7 @@ impl<A: Allocator + Copy> Course<A> {
         drop_rest(waiting, listener)
     }
 
-    /// Does what a line of a script gives. What simulators answer waits.
+    /// Handles what a line of a script gives. Answers of simulators wait.
     pub fn begin<L: Listener<A>>(
         &mut self,
         item: Item<A>,
@@ -319,10 +330,11 @@ impl<A: Allocator + Copy> Course<A> {
             Given::MobileOf { call, habit } => {
                 self.set_mobile(side, call, habit, waiting, listener)
             }
+            Given::Restart(restart) => Ok(self.restart(restart, waiting)?),
         }
     }
 
-    /// Does what a line of a script gives, and then what waits behind that, until nothing of it is left.
+    /// Handles what a line of a script gives, and then the answers that wait, until none is left.
     pub fn follow<L: Listener<A>>(
         &mut self,
         item: Item<A>,
@@ -408,7 +420,7 @@ fn tell<A: Allocator + Copy, L: Listener<A>>(
     Ok(pass_answer(simulators, turn, waiting)?)
 }
 
-/// Drops what still waits, and tells a listener so, where there is any.
+/// Drops the answers that still wait, and tells a listener if there were any.
 pub fn drop_rest<A: Allocator + Copy, L: Listener<A>>(
     waiting: &mut Waiting<A>,
     listener: &mut L,

@@ -1,4 +1,4 @@
-//! A view of a desk that notes where it found no free channel, for a trace.
+//! A view of a desk that notes when no channel was free, for a trace.
 ghost use Rattle.std.specs.Prelude.{◌≡◌, ◌∷◌, ◌++◌, [], ℕ, List, All, drop, length, IfOk, IfErr, OnOk, OnErr, IfSome, MatchOption};
 ghost use Rattle.radio_desk.specs.Desk.{IsJudged, IsAnew};
 ghost use Rattle.ho_procedure.specs.Claims.{Entry, Claim, IsForeign, IsNoMemory, UnknownReceipt, IsFor, SaysNone, SaysChosen, SaysRefused};
@@ -23,8 +23,8 @@ pub struct Note {
     pub rate: Rate,
 }
 
-/// A desk of one's own, and a note of each time that no channel of a cell was free, in their order. Contracts see the desk and
-/// the notes. Room for a note is made first: so memory may be refused wherever a channel is taken.
+/// A desk without other callers, and a note of each time that no channel of a cell was free, in order. Contracts see the
+/// desk and the notes. Room for a note is made first, so memory may be refused whenever a channel is taken.
 #[derive(Drop)]
 pub struct Noting<A: Allocator = Global> {
     solo: Solo<A>,
@@ -70,7 +70,7 @@ impl<A: Allocator + Copy> Noting<A> {
         self.notes.len()
     }
 
-    /// The notes from a place in their list on; none past the last. Its contract also hands out that each note is true.
+    /// The notes from a place in their list on; none past the last. Its contract also says that each note is true.
     pub fn notes_from(&self, place: usize) -> &[Note]
         ensures notes { result.now ≡ drop place self.now.notes }
         ensures each { All (IsTrueNote self.now.desk) result.now }

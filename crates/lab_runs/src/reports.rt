@@ -1,4 +1,4 @@
-//! What a station passes on of a mobile that measures.
+//! The measurement results that a station passes on from a mobile.
 ghost use Rattle.std.specs.Prelude.{◌≡◌, ◌↔◌, ◌<◌, ◌≤◌, ◌+◌, ◌++◌, length, Ok, IfOk, OnOk};
 ghost use Rattle.rr_elements.specs.declared.measurement.Ncell.{Ncell};
 ghost use Rattle.rr_elements.specs.MeasResults.{Results};

@@ -1,4 +1,4 @@
-//! One controller or two that are driven by a script, on one thread.
+//! One controller or two, driven by a script on one thread.
 ghost use Rattle.std.specs.Prelude.{◌≡◌, ◌≢◌, ◌⊎◌, ◌∷◌, [], Ok, Err, None, Some, IsSome, IsSomeAnd, IfOk, IfErr, IfSome, false, is_some, option_map, map};
 ghost use Rattle.cell_table.specs.SiteFile.{described_site, IsBlankFile};
 ghost use Rattle.cell_table.specs.declared.fault.Key.TheVariants.{Handover};
@@ -20,7 +20,7 @@ use std::sync::Arc;
 pub enum Status {
     /// A script was run to its end, an undone attempt left no trace, or the message, help or the version was printed.
     Done,
-    /// An undone attempt left a trace: without it the book is another, or a reply to an event that stays; or all settled
+    /// An undone attempt left a trace: without it the book, or a reply to an event that stays, is different. Or all settled
     /// attempts of a history together left one. Or something else came of a script than its comments expect.
     Differs,
     /// Something was refused, and what was printed says what: the words, a file, the site, a line of the script or of the
@@ -49,9 +49,8 @@ fn status_after(fault: LabFault) -> u8
     }
 }
 
-/// The status that a program ends with: 0 where the work is done, 1 where undone attempts left a trace or a script gave
-/// something else than it expects, 2 where something was refused or the output couldn't be written, 3 where memory was
-/// refused.
+/// The exit status of the program: 0 if the work is done, 1 if undone attempts left a trace or a script gave something else
+/// than it expects, 2 if something was refused or the output couldn't be written, 3 if memory was refused.
 pub fn exit_status(ended: Result<Status, LabFault>) -> u8
     ensures status { result ≡ exit_status_of ended }
 {
@@ -61,7 +60,7 @@ pub fn exit_status(ended: Result<Status, LabFault>) -> u8
     }
 }
 
-/// The site of a controller, and its peer's where there is one.
+/// The site of a controller, and its peer's if there is one.
 #[derive(Drop)]
 pub struct Sites<A: Allocator + Copy = Global> {
     pub first: Site<A>,
@@ -75,7 +74,7 @@ fn shared<A: Allocator + Copy>(alloc: A, site: Site<A>) -> Result<Arc<Site<A>, A
     Arc::new(alloc, site).map_err(AllocError::from)
 }
 
-/// The peer's, where there is one.
+/// The peer's, if there is one.
 fn shared_peer<A: Allocator + Copy>(
     alloc: A,
     site: Option<Site<A>>,
@@ -88,7 +87,7 @@ fn shared_peer<A: Allocator + Copy>(
     }
 }
 
-/// Controllers of the sites that were given nothing yet.
+/// Controllers of the sites, which have been given nothing yet.
 pub fn fresh_course<A: Allocator + Copy>(alloc: A, sites: Sites<A>) -> Result<Course<A>, AllocError>
     ensures openings { IfOk result (λ course. AreOpenings (views_of sites)
         (positions_of course.controllers)) }
@@ -101,7 +100,7 @@ pub fn fresh_course<A: Allocator + Copy>(alloc: A, sites: Sites<A>) -> Result<Co
     Course::new(alloc, first, peer)
 }
 
-/// What the lines of a script give; nothing where a line can't be read, whose number a listener was told.
+/// What the lines of a script give; nothing if a line can't be read (a listener was told its number).
 pub fn script_items<A: Allocator + Copy, L: Listener<A>>(
     alloc: A,
     script: &str,
@@ -124,12 +123,12 @@ pub fn script_items<A: Allocator + Copy, L: Listener<A>>(
     }
 }
 
-/// Runs a script over sites that were read, tells a listener what comes of it, and hands out what came of each input. Where a
-/// line of the script can't be read there is no run, and the listener is told that line's number (see [`lab_run`]).
+/// Runs a script over sites that were read, tells a listener what comes of it, and returns what came of each input. If a
+/// line of the script can't be read, nothing is run, and the listener is told the line's number (see [`lab_run`]).
 ///
-/// The run's turns are the script's inputs in their order, with what simulators sent between them; what a line asks its
-/// controller's book is found by that as it is when the line is played. Each was handled by the controller that it is for as the
-/// procedure says, from empty books on to the controllers that the run ends with.
+/// The run's turns are the script's inputs in order, with the messages of simulators between them. An input that a line
+/// finds by its controller's book depends on the book when the line is played. Each input was handled by its controller as
+/// the procedure says, from empty books on to the controllers with which the run ends.
 ///
 /// `NoMemory`: memory was refused; then every line of the script can be read. `Write`: the listener couldn't write. After
 /// either the listener was told what came before.
@@ -227,9 +226,9 @@ pub fn refuse_site<A: Allocator + Copy, L: Listener<A>>(
     Ok(Status::Refused)
 }
 
-/// Runs a script over a site, or over two where a peer's is given, all given as texts, and tells a listener what comes of it,
-/// or why nothing is run. The site is read first, then the peer's, then all lines of the script. The answer is `Done` after a
-/// run to its end, and `Refused` where nothing is run.
+/// Runs a script over a site, or over two if a peer's is given, all as texts, and tells a listener what comes of it, or why
+/// nothing is run. The site is read first, then the peer's, then all lines of the script. The answer is `Done` after a run
+/// to the end, and `Refused` if nothing is run.
 ///
 /// `scratch` serves while the sites are read, `alloc` for all else. Once memory was refused (`NoMemory`), or the listener
 /// couldn't write (`Write`), it is told nothing more; of a site of white space and comments alone it is told without any
@@ -260,17 +259,16 @@ pub fn run_for<A: Allocator + Copy, L: Listener<A>>(
     }
 }
 
-/// Runs a script over a site, or over two where a peer's is given, all given as texts, and prints the trace to `out`.
+/// Runs a script over a site, or over two if a peer's is given, all given as texts, and prints the trace to `out`.
 ///
-/// With a peer there are two controllers, each with a book of its own, and each line that one of them prints begins
-/// with `1: ` or `2: `. The site is read first, then the peer's, then all lines of the script. A text that describes no
-/// site prints one line: `site 1` where it isn't TOML, `site 2` and the key where a key is missing, `site 3` and the
-/// key where a value is of another kind or out of its range, `site 4` and the kind where something stands twice,
-/// `site 5` and the cell where it has no traffic channel. A script prints `line` and the number of its first line that can't
-/// be read, counted from 1. Then nothing else is printed and the answer is `Refused`; after a run to its end it is
-/// `Done`. `scratch` serves while the sites are read, `alloc` for all else. Once memory was refused (`NoMemory`), or
-/// `out` can't be written to (`Write`), nothing more is printed; a site of white space and comments alone is refused
-/// without any memory.
+/// With a peer there are two controllers, each with a book of its own, and each line that one of them prints begins with `1:
+/// ` or `2: `. The site is read first, then the peer's, then all lines of the script. A text that describes no site prints
+/// one line: `site 1` if it isn't TOML, `site 2` and the key where a key is missing, `site 3` and the key where a value is
+/// of another kind or out of its range, `site 4` and the kind where something stands twice, `site 5` and the cell where it
+/// has no traffic channel. A script prints `line` and the number of its first line that can't be read, counted from 1. Then
+/// nothing else is printed and the answer is `Refused`; after a run to its end it is `Done`. `scratch` serves while the
+/// sites are read, `alloc` for all else. Once memory was refused (`NoMemory`), or `out` can't be written to (`Write`),
+/// nothing more is printed; a site of white space and comments alone is refused without any memory.
 pub fn lab_run<A: Allocator + Copy, W: Write>(
     alloc: A,
     scratch: Global,

@@ -1,6 +1,6 @@
-//! What is simulated around one controller or two: the stations and mobiles of each, and the switching centre.
+//! The simulators around one controller or two: the stations and mobiles of each, and the switching centre.
 use crate::waiting::{Arrival, Waiting};
-use bts_model::{Setting, StationOut, World};
+use bts_model::{Restart, Setting, StationOut, World};
 use cell_table::Site;
 use exchange::{Inbound, Outbound};
 use lab_script::script::Side;
@@ -69,12 +69,21 @@ impl<A: Allocator + Copy> Simulators<A> {
         })
     }
 
-    /// Asks something of a station or of a mobile. What is sent then waits.
+    /// Asks something of a station or of a mobile. The messages that it sends wait.
     pub fn set(&mut self, setting: Setting, waiting: &mut Waiting<A>) -> Result<(), AllocError> {
         queue_stations(waiting, self.world.set(setting)?)
     }
 
-    /// The switching centre hangs up a call. What it sends then waits.
+    /// A station restarts. What its controller hears of that waits.
+    pub fn restart(
+        &mut self,
+        restart: Restart,
+        waiting: &mut Waiting<A>,
+    ) -> Result<(), AllocError> {
+        queue_stations(waiting, self.world.restart(restart)?)
+    }
+
+    /// The switching centre hangs up a call. The messages that it sends wait.
     pub fn hang_up(
         &self,
         side: Side,
@@ -104,7 +113,7 @@ impl<A: Allocator + Copy> Simulators<A> {
         }
     }
 
-    /// The messages of a controller go where they are for, in their order.
+    /// Delivers the messages of a controller, in order.
     pub fn pass_on(
         &mut self,
         side: Side,

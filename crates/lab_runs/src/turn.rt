@@ -14,7 +14,7 @@ use run_listeners::{Answer, Source, Turn};
 use std::alloc::{AllocError, Allocator, Global};
 use trace_text::trace::Step;
 
-/// Why it isn't said what came of an input.
+/// Why what came of an input isn't returned.
 #[derive(Drop)]
 pub enum TurnFault<A: Allocator = Global> {
     /// Memory was refused, and nothing is to be sent.
@@ -33,7 +33,7 @@ impl<A: Allocator> From<AllocError> for TurnFault<A> {
     }
 }
 
-/// The lists of an earlier turn. What is in them was told, and is dropped: their memory serves for a later one.
+/// The lists of an earlier turn. Their contents were told, and are dropped; their memory is used again.
 #[derive(Drop)]
 pub struct Spare<A: Allocator = Global> {
     sent: Vec<Outbound<A>, A>,
@@ -149,8 +149,8 @@ fn handled<A: Allocator + Copy>(
     }
 }
 
-/// The controller of a side handles an input; says what came of it, in the lists of an earlier turn. Where memory is refused,
-/// what was asked so far stands, and what came of it isn't said; but what it owes is.
+/// The controller of a side handles an input. Returns what came of it, in the lists of an earlier turn. If memory is
+/// refused, what was asked so far stands; only the messages that are owed are returned.
 pub fn take_turn<A: Allocator + Copy>(
     alloc: A,
     controller: &mut Controller<Noting<A>, A>,

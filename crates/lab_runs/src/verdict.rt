@@ -1,11 +1,11 @@
-//! What the audit of a desk's history comes to: a line, and a status.
+//! The result of the audit of a desk's history: a line, and a status.
 ghost use Rattle.std.specs.Prelude.{◌≡◌, if◌then◌else◌, codes};
 ghost use Rattle.lab_runs.specs.Statuses.{status_of, audit_status};
 
 use crate::run::Status;
 use radio_desk::audit::Audit;
 
-/// How the work ended that looked whether all settled attempts of a history left a trace together.
+/// The status of an audit: whether all settled attempts of a history together left a trace.
 pub fn audit_status(audit: &Audit) -> Status
     ensures status { result ≡ audit_status audit.now }
 {

@@ -12,5 +12,5 @@ pub struct Arrival<A: Allocator = Global> {
     pub input: Inbound<A>,
 }
 
-/// Messages of simulators that wait for their controllers, the first that came in front.
+/// Messages of simulators that wait for their controllers, the oldest first.
 pub type Waiting<A> = VecDeque<Arrival<A>, A>;

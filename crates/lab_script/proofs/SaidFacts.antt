@@ -50,6 +50,7 @@ said_attaches_none message (saying.Set setting) e = absurd cc
 said_attaches_none message (saying.HangUp call) e = absurd cc
 said_attaches_none message (saying.Ask asked) e = absurd cc
 said_attaches_none message (saying.MobileOf call habit) e = absurd cc
+said_attaches_none message (saying.Restart restart) e = absurd cc
 
 pub line_attaches_none : {A : Type 0} (line : List ℕ) → option_and_then (λ (r : Said × List ℕ). given {A = A} r.1 r.0) (line_said line) ≢ Some Attach
 line_attaches_none {A = A} line = by_said (line_said line)

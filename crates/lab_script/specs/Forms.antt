@@ -5,7 +5,7 @@ use Rattle.lab_script.specs.declared.forms.Slot.{Slot}
 use Rattle.lab_script.specs.declared.forms.Slot.TheVariants as slot
 use Rattle.lab_script.specs.declared.forms.Form.{Form}
 use Rattle.lab_script.specs.declared.forms.Form.TheVariants as form
-use Rattle.lab_script.specs.Words.{number_below, timeslot_of, abis_octets, a_octets, timer_of, rate_of, habit_of, count_of, whom_of, held_of, answer_of, is_of_call, has_fourth}
+use Rattle.lab_script.specs.Words.{number_below, timeslot_of, abis_octets, a_octets, timer_of, rate_of, habit_of, count_of, whom_of, held_of, answer_of, is_of_call, has_second, has_fourth}
 use Rattle.lab_script.specs.Reports.{report_of}
 
 -- a slot takes the rest of its line
@@ -64,6 +64,8 @@ keyword form.Report = codes "report"
 keyword form.Answer = codes "answer"
 keyword form.HoldAnswer = codes "hold"
 keyword form.MobileOf = codes "mobile"
+keyword form.Restart = codes "restart"
+keyword form.RestartTrx = codes "restart"
 
 -- the forms of lines of an operator, of a timer and of messages
 abbrev pub input_forms : List Form
@@ -71,7 +73,7 @@ input_forms = form.Open ∷ form.Seize ∷ form.Handover ∷ form.Undo ∷ form.
 
 -- and of what is simulated
 abbrev pub simulated_forms : List Form
-simulated_forms = form.Sim ∷ form.Refuse ∷ form.Hold ∷ form.Let ∷ form.Mobile ∷ form.Double ∷ form.Cut ∷ form.HangUp ∷ []
+simulated_forms = form.Sim ∷ form.Refuse ∷ form.Hold ∷ form.Let ∷ form.Mobile ∷ form.Double ∷ form.Cut ∷ form.Restart ∷ form.HangUp ∷ []
 
 -- the one of some forms that has this keyword
 abbrev pub form_among : List Form → List ℕ → Option Form
@@ -103,11 +105,14 @@ first_with form.Report = form.Report
 first_with form.Answer = form.Answer
 first_with form.HoldAnswer = form.Hold
 first_with form.MobileOf = form.Mobile
+first_with form.Restart = form.Restart
+first_with form.RestartTrx = form.Restart
 
 -- the form of a line that goes on so, of two with one first word
 abbrev pub going_on : Option (List ℕ) → Form → Form
 going_on rest form.Hold = if has_fourth rest then form.HoldAnswer else form.Hold
 going_on rest form.Mobile = if is_of_call rest then form.MobileOf else form.Mobile
+going_on rest form.Restart = if has_second rest then form.RestartTrx else form.Restart
 going_on rest other = other
 
 -- the form of a line by its first word, and by what stands behind that
@@ -136,6 +141,8 @@ slots_of form.Report = slot.Whom ∷ slot.Fields ∷ []
 slots_of form.Answer = slot.Call ∷ slot.Answer ∷ []
 slots_of form.HoldAnswer = slot.Cell ∷ slot.Trx ∷ slot.Timeslot ∷ slot.Held ∷ []
 slots_of form.MobileOf = slot.Call ∷ slot.Habit ∷ []
+slots_of form.Restart = slot.Cell ∷ []
+slots_of form.RestartTrx = slot.Cell ∷ slot.Trx ∷ []
 
 -- a line of this form asks something of what is simulated
 abbrev pub needs_sim : Form → Bool
@@ -159,3 +166,5 @@ needs_sim form.Report = false
 needs_sim form.Answer = false
 needs_sim form.HoldAnswer = true
 needs_sim form.MobileOf = true
+needs_sim form.Restart = true
+needs_sim form.RestartTrx = true

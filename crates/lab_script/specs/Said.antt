@@ -19,7 +19,7 @@ use Rattle.lab_script.specs.declared.forms.Form.{Form}
 use Rattle.lab_script.specs.declared.forms.Form.TheVariants as form
 use Rattle.lab_script.specs.declared.values.Values.{Values}
 use Rattle.lab_script.specs.declared.said.Said.{Said}
-use Rattle.lab_script.specs.declared.said.Said.TheVariants.{Operator, Expiry, Abis, A, Set, HangUp, Ask, MobileOf}
+use Rattle.lab_script.specs.declared.said.Said.TheVariants.{Operator, Expiry, Abis, A, Set, HangUp, Ask, MobileOf, Restart}
 use Rattle.lab_script.specs.declared.script.Given.{Given}
 use Rattle.lab_script.specs.declared.script.Given.TheVariants as gives
 use Rattle.lab_script.specs.Sides.{number_of, side_of, text_of}
@@ -68,6 +68,15 @@ abbrev pub mobile_at : Option ℕ → Option Habit → Option Said
 mobile_at (Some call) (Some habit) = Some (MobileOf call habit)
 mobile_at call habit = None
 
+-- stations of a controller restart: those of all TRX of a cell, or of one TRX
+abbrev pub restart_at : Side → Option ℕ → Option Said
+restart_at side (Some cell) = Some (Restart (record { controller = number_of side; cell = cell; trx = None }))
+restart_at side None = None
+
+abbrev pub restart_trx_at : Side → Option ℕ → Option ℕ → Option Said
+restart_trx_at side (Some cell) (Some trx) = Some (Restart (record { controller = number_of side; cell = cell; trx = Some trx }))
+restart_trx_at side cell trx = None
+
 -- What a line of a form says to a controller, with what the last word took of the rest of the line. The one that attaches the simulators is for both: it says nothing to one.
 abbrev pub said_of : Side → Form → Values → List ℕ → Option Said
 said_of side form.Open v kept = open_at v.call (channel_in v)
@@ -90,6 +99,8 @@ said_of side form.Report v kept = report_at v.whom (report_of kept)
 said_of side form.Answer v kept = answer_at v.call v.answer
 said_of side form.HoldAnswer v kept = option_and_then (λ held. set side v (act.Hold held)) v.held
 said_of side form.MobileOf v kept = mobile_at v.call v.habit
+said_of side form.Restart v kept = restart_at side v.cell
+said_of side form.RestartTrx v kept = restart_trx_at side v.cell v.trx
 
 -- and by what stands behind its first word, with its message as it stands there
 unfoldable pub said_by : Side → Option (List ℕ) → Form → Option (Said × List ℕ)
@@ -113,6 +124,7 @@ needs_sim (Set setting) = true
 needs_sim (HangUp call) = true
 needs_sim (Ask asked) = false
 needs_sim (MobileOf call habit) = true
+needs_sim (Restart restart) = true
 
 -- what is given by it, with its message
 abbrev pub given : {A : Type 0} → List ℕ → Said → Option (Given A)
@@ -124,3 +136,4 @@ given message (Set setting) = Some (gives.Set setting)
 given message (HangUp call) = Some (gives.HangUp call)
 given message (Ask asked) = Some (gives.Ask asked)
 given message (MobileOf call habit) = Some (gives.MobileOf call habit)
+given message (Restart restart) = Some (gives.Restart restart)

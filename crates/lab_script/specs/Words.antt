@@ -54,6 +54,10 @@ is_call_and (Some second) = not (is_some (behind_word second)) && not (list_all 
 abbrev pub is_of_call : Option (List ℕ) → Bool
 is_of_call rest = is_call_and (behind_left rest)
 
+-- two words or more are left
+abbrev pub has_second : Option (List ℕ) → Bool
+has_second rest = is_some (behind_left rest)
+
 -- four words or more are left
 abbrev pub has_fourth : Option (List ℕ) → Bool
 has_fourth rest = is_some (behind_left (behind_left (behind_left rest)))

@@ -5,8 +5,8 @@ ghost use Rattle.lab_script.specs.Forms as said;
 use crate::report::report_of;
 pub use crate::words::cut_word;
 use crate::words::{
-    answer, call_number, count, habit, has_fourth, held, is_of_call, is_on_a, is_on_abis, octet,
-    rate, timer, timeslot, whom,
+    answer, call_number, count, habit, has_fourth, has_second, held, is_of_call, is_on_a,
+    is_on_abis, octet, rate, timer, timeslot, whom,
 };
 use std::fmt;
 
@@ -123,6 +123,8 @@ pub enum Form {
     Mobile,
     Double,
     Cut,
+    /// `restart` with a cell.
+    Restart,
     HangUp,
     /// `report`: what mobiles report of the channels that they are on.
     Report,
@@ -132,6 +134,8 @@ pub enum Form {
     HoldAnswer,
     /// `mobile` with a call.
     MobileOf,
+    /// `restart` with a TRX.
+    RestartTrx,
 }
 
 /// The forms of lines that an operator or a timer gives, and of messages.
@@ -156,6 +160,7 @@ pub const SETTINGS: &[Form] = &[
     Form::Mobile,
     Form::Double,
     Form::Cut,
+    Form::Restart,
     Form::HangUp,
 ];
 
@@ -203,6 +208,7 @@ impl Form {
         match self {
             Form::Hold if has_fourth(rest) => Form::HoldAnswer,
             Form::Mobile if is_of_call(rest) => Form::MobileOf,
+            Form::Restart if has_second(rest) => Form::RestartTrx,
             form => form,
         }
     }
@@ -229,6 +235,7 @@ impl Form {
             Form::Mobile | Form::MobileOf => "mobile",
             Form::Double => "double",
             Form::Cut => "cut",
+            Form::Restart | Form::RestartTrx => "restart",
             Form::HangUp => "hangup",
             Form::Report => "report",
             Form::Answer => "answer",
@@ -257,6 +264,8 @@ impl Form {
             Form::Answer => &[Slot::Call, Slot::Answer],
             Form::HoldAnswer => &[Slot::Cell, Slot::Trx, Slot::Timeslot, Slot::Held],
             Form::MobileOf => &[Slot::Call, Slot::Habit],
+            Form::Restart => &[Slot::Cell],
+            Form::RestartTrx => &[Slot::Cell, Slot::Trx],
         }
     }
 
@@ -271,9 +280,11 @@ impl Form {
             | Form::Mobile
             | Form::Double
             | Form::Cut
+            | Form::Restart
             | Form::HangUp
             | Form::HoldAnswer
-            | Form::MobileOf => true,
+            | Form::MobileOf
+            | Form::RestartTrx => true,
             Form::Open
             | Form::Seize
             | Form::Handover

@@ -43,7 +43,7 @@ fn heard_of(text: &str) -> Option<Heard>
     })
 }
 
-/// The neighbour that a part says, where there is one.
+/// The neighbour that a part says, if there is one.
 fn heard_in(part: Option<&str>) -> Option<Option<Heard>>
     ensures { result ≡ said.heard_in (option_map (λ text. text.now) part.entry) }
 {
@@ -99,7 +99,7 @@ impl Fields {
         }
     }
 
-    /// These fields, and what a field with this key says; nothing where it is none, can't be read, or stands twice.
+    /// These fields, and what a field with this key says; nothing if it is none, can't be read, or stands twice.
     fn put(self, key: &str, value: &str) -> Option<Fields>
         ensures { result ≡ said.put key.now value.now self }
     {
@@ -248,7 +248,7 @@ fn missing<'a>(fields: Fields) -> Option<FieldsFault<'a>>
     }
 }
 
-/// What is wrong with the fields of a report; nothing where they say one.
+/// What is wrong with the fields of a report; nothing if they say one.
 pub fn fields_fault(text: &str) -> Option<FieldsFault<'_>>
     ensures fault { option_map said.shown result ≡ said.fields_fault text.now }
 {

@@ -9,7 +9,7 @@ use crate::side::{Side, cut_side};
 use crate::values::{Values, values_of};
 use crate::words::{cut_word, is_on_a, is_on_abis};
 use attempt_journal::Timer;
-use bts_model::{Act, Habit, Held, Setting};
+use bts_model::{Act, Habit, Held, Restart, Setting};
 use exchange::Line;
 
 /// What a line says, without its message.
@@ -31,6 +31,8 @@ pub(crate) enum Said {
     Ask(Asked),
     /// The habit of the mobile of a call.
     MobileOf { call: u16, habit: Habit },
+    /// A simulated station restarts.
+    Restart(Restart),
 }
 
 /// An act at the channel of a line.
@@ -91,6 +93,16 @@ fn said_of(side: Side, form: Form, values: Values, kept: &str) -> Option<Said>
             call: values.call?,
             habit: values.habit?,
         }),
+        Form::Restart => Some(Said::Restart(Restart {
+            controller: side.number(),
+            cell: values.cell?,
+            trx: None,
+        })),
+        Form::RestartTrx => Some(Said::Restart(Restart {
+            controller: side.number(),
+            cell: values.cell?,
+            trx: Some(values.trx?),
+        })),
     }
 }
 
@@ -103,7 +115,7 @@ fn said_by<'a>(side: Side, form: Form, rest: Option<&'a str>) -> Option<(Said, &
     Some((said_of(side, form, values, kept)?, kept))
 }
 
-/// What a line says, and its message, as it stands there; nothing where it is no line.
+/// What a line says, and its message, as it stands there; nothing if it is no line.
 pub(crate) fn line_said(line: &str) -> Option<(Said, &str)>
     ensures { option_map (λ r. (r.0, r.1.now)) result ≡ said.line_said line.now }
 {
@@ -118,7 +130,7 @@ impl Said {
         ensures { result ≡ said.needs_sim self }
     {
         match self {
-            Said::Set(_) | Said::HangUp(_) | Said::MobileOf { .. } => true,
+            Said::Set(_) | Said::HangUp(_) | Said::MobileOf { .. } | Said::Restart(_) => true,
             Said::Operator(_)
             | Said::Expiry { .. }
             | Said::Abis { .. }
@@ -140,6 +152,7 @@ impl Said {
             Said::HangUp(_) => true,
             Said::Ask(_) => true,
             Said::MobileOf { .. } => true,
+            Said::Restart(_) => true,
         }
     }
 }

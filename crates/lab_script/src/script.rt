@@ -14,7 +14,7 @@ use crate::said::{Said, line_said};
 pub use crate::side::{Side, cut_side, is_for_peer};
 pub use crate::words::is_octets;
 use crate::words::{a_octets, abis_octets};
-use bts_model::{Habit, Setting};
+use bts_model::{Habit, Restart, Setting};
 use exchange::Inbound;
 use std::alloc::{AllocError, Allocator, Global};
 use thiserror::Error;
@@ -35,6 +35,8 @@ pub enum Given<A: Allocator = Global> {
     Ask(Asked),
     /// The habit of the mobile of this call of the controller, on the channel that it has when the line is played.
     MobileOf { call: u16, habit: Habit },
+    /// A simulated station of the controller restarts.
+    Restart(Restart),
 }
 
 /// What a line of a script gives.
@@ -90,6 +92,7 @@ fn give<A: Allocator + Copy>(
         Said::HangUp(call) => Ok(Some(Given::HangUp(call))),
         Said::Ask(asked) => Ok(Some(Given::Ask(asked))),
         Said::MobileOf { call, habit } => Ok(Some(Given::MobileOf { call, habit })),
+        Said::Restart(restart) => Ok(Some(Given::Restart(restart))),
     }
 }
 
@@ -216,8 +219,8 @@ fn is_behind(sim: Option<usize>, place: usize) -> bool
     }
 }
 
-/// The number of the first line that can't be read, counted from 1: that is none, that is for the peer where there is
-/// none, or that asks something of simulators where no line before it attaches them.
+/// The number of the first line that can't be read, counted from 1: that is none, that is for the peer if there is none, or
+/// that asks something of simulators where no line before it attaches them.
 pub fn first_unreadable(text: &str, has_peer: bool) -> Option<usize>
     ensures line { result ≡ said.first_unreadable has_peer text.now }
 {

@@ -7,7 +7,7 @@ ghost use Rattle.lab_script.specs.Sides as said;
 pub enum Side {
     /// The one that is there in any case.
     First,
-    /// The other, where there are two.
+    /// The other, if there are two.
     Peer,
 }
 

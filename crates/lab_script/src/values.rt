@@ -47,8 +47,8 @@ impl Values {
         }
     }
 
-    /// These values, and what a word says in this slot; nothing where it doesn't fit there. What takes the rest of a line is kept
-    /// elsewhere.
+    /// These values, and what a word says in this slot; nothing if it doesn't fit there. What takes the rest of a line is
+    /// kept elsewhere.
     fn put(self, slot: Slot, word: &str) -> Option<Values>
         ensures { result ≡ said.put slot word.now self }
     {
@@ -115,7 +115,7 @@ impl Values {
     }
 }
 
-/// What the words that are left of a line say, and what the last of them took with the rest of the line; nothing where a word
+/// What the words that are left of a line say, and what the last of them took with the rest of the line; nothing if a word
 /// doesn't fit its slot, is missing, or stands behind the last.
 fn filled<'a>(
     slots: &[Slot],

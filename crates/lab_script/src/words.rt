@@ -106,14 +106,14 @@ fn timeslot_number(text: &str) -> Option<u8>
     below(8, text)
 }
 
-/// A text up to its first `/`, and what stands behind that; `None` where it has none.
+/// A text up to its first `/`, and what stands behind that; `None` if it has none.
 fn around_slash(text: &str) -> Option<(&str, &str)>
     ensures { option_map (λ cut. (cut.0.now, cut.1.now)) result ≡ said.around_slash text.now }
 {
     text.split_once('/')
 }
 
-/// A text up to its first `:`, and what stands behind that; `None` where it has none.
+/// A text up to its first `:`, and what stands behind that; `None` if it has none.
 pub(crate) fn around_colon(text: &str) -> Option<(&str, &str)>
     ensures { option_map (λ cut. (cut.0.now, cut.1.now)) result ≡ cut_at 58 text.now }
 {
@@ -240,6 +240,13 @@ pub(crate) fn is_of_call(rest: Option<&str>) -> bool
     }
 }
 
+/// Whether what is left of a line has two words or more.
+pub(crate) fn has_second(rest: Option<&str>) -> bool
+    ensures { result ≡ said.has_second (option_map (λ text. text.now) rest.entry) }
+{
+    behind(rest).is_some()
+}
+
 /// Whether what is left of a line has four words or more.
 pub(crate) fn has_fourth(rest: Option<&str>) -> bool
     ensures { result ≡ said.has_fourth (option_map (λ text. text.now) rest.entry) }
@@ -261,8 +268,8 @@ pub fn is_octets(text: &str) -> bool
     !text.is_empty() && text.len() % 2 == 0 && is_hex_digits(text)
 }
 
-/// The octets that a text writes in hexadecimal; nothing where it writes none. Only where memory is refused the digits are
-/// looked at once more: a text that writes none needs none.
+/// The octets that a text writes in hexadecimal; nothing if it writes none. Only if memory is refused the digits are looked
+/// at once more: a text that writes none needs none.
 pub(crate) fn octets<A: Allocator + Copy>(
     alloc: A,
     text: &str,
@@ -300,8 +307,8 @@ pub(crate) fn is_on_a(text: &str) -> bool
     is_octets(text) || says_a(text)
 }
 
-/// The octets of the message on Abis that a text says in words; nothing where it says none. Only where it isn't written
-/// the text is looked at once more: one that says no message needs no memory.
+/// The octets of the message on Abis that a text says in words; nothing if it says none. Only if it isn't written the text
+/// is looked at once more: one that says no message needs no memory.
 fn abis_in_words<A: Allocator + Copy>(alloc: A, text: &str) -> Result<Option<Octets<A>>, AllocError>
     ensures value { IfOk result (λ octets. octets ≡ abis.octets_said text.now) }
     ensures memory { IsErr result → is_some (abis.octets_said text.now) ≡ true }
@@ -319,8 +326,8 @@ fn abis_in_words<A: Allocator + Copy>(alloc: A, text: &str) -> Result<Option<Oct
     }
 }
 
-/// The octets of the message on A that a text says in words; nothing where it says none. Only where it isn't written
-/// the text is looked at once more: one that says no message needs no memory.
+/// The octets of the message on A that a text says in words; nothing if it says none. Only if it isn't written the text is
+/// looked at once more: one that says no message needs no memory.
 fn a_in_words<A: Allocator + Copy>(alloc: A, text: &str) -> Result<Option<Octets<A>>, AllocError>
     ensures value { IfOk result (λ octets. octets ≡ a.octets_said text.now) }
     ensures memory { IsErr result → is_some (a.octets_said text.now) ≡ true }
@@ -338,7 +345,7 @@ fn a_in_words<A: Allocator + Copy>(alloc: A, text: &str) -> Result<Option<Octets
     }
 }
 
-/// The octets of the message on Abis that a text says, in hexadecimal or in words; nothing where it says none.
+/// The octets of the message on Abis that a text says, in hexadecimal or in words; nothing if it says none.
 #[tactic(auto, using(crate::proofs::WordLemmas::one_said, crate::proofs::WordLemmas::other_said))]
 pub(crate) fn abis_octets<A: Allocator + Copy>(
     alloc: A,

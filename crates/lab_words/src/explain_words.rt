@@ -8,8 +8,8 @@ use std::alloc::{AllocError, Global};
 
 /// What stands behind the help of `explain` and of `explain refused`.
 const HELP: &str = "\
-Statuses: 0 the number has words, 2 it has none, or the words of the command are wrong, 3 memory
-was refused.
+Statuses: 0 the number was explained, 2 there is no such number, or the command line is wrong,
+3 memory was refused.
 
 As in: bsc_lab explain refused 6";
 
@@ -18,7 +18,7 @@ const CAUSE_HELP: &str = "\
 Links: rr is the radio path (TS 44.018), a the switching centre (TS 48.008), abis the base station
 (TS 48.058).
 
-Statuses: 0 the cause has words, 2 the words of the command are wrong, 3 memory was refused.
+Statuses: 0 the cause was explained, 2 the command line is wrong, 3 memory was refused.
 
 As in: bsc_lab explain cause a 33, or, in hexadecimal: bsc_lab explain cause a 0x21";
 
@@ -27,11 +27,12 @@ const FAULT_HELP: &str = "\
 Links: rr is the radio path (TS 44.018), a the switching centre (TS 48.008), abis the base station
 (TS 48.058).
 
-ARGUMENT is a message type or an element identifier (0 to 255), an offset (on a 3 to 254, on abis 1
-to 1023), or on rr what is wrong with the element (1 to 4), in decimal as decode prints it.
+ARGUMENT is in decimal, as decode prints it. It is a message type or an element identifier (0 to
+255), an offset (3 to 254 on a, 1 to 1023 on abis), or what is wrong with the element (1 to 4, on
+rr).
 
-Statuses: 0 the fault has words, 2 there is none of this number, it can't have this argument, or the
-words of the command are wrong, 3 memory was refused.
+Statuses: 0 the fault was explained, 2 there is no such fault, it can't have this argument, or the
+command line is wrong, 3 memory was refused.
 
 As in: bsc_lab explain fault abis 3 26";
 
@@ -42,7 +43,7 @@ const OCTET: ValueParser<'static> = ValueParser::Signed(0, 255);
 const LINK: ArgumentRow = ArgumentRow {
     name: "LINK",
     form: Form::Placed(LINKS),
-    help: "Where the number is from",
+    help: "The link that the number comes from",
     rules: &[Rule::Required],
 };
 
@@ -54,7 +55,7 @@ const REFUSED: CommandRow = CommandRow {
     arguments: &[ArgumentRow {
         name: "N",
         form: Form::Placed(OCTET),
-        help: "The refusal's number, 1 to 9, as a trace shows it behind refused",
+        help: "The refusal's number, 1 to 9, which a trace shows after the word refused",
         rules: &[Rule::Required],
     }],
 };
@@ -95,13 +96,13 @@ const FAULT: CommandRow = CommandRow {
         ArgumentRow {
             name: "N",
             form: Form::Placed(OCTET),
-            help: "The fault's number, as a trace shows it: 1 to 6, on rr 1 to 4",
+            help: "The fault's number, as a trace shows it: 1 to 6 (1 to 4 on rr)",
             rules: &[Rule::Required],
         },
         ArgumentRow {
             name: "ARGUMENT",
             form: Form::Placed(NUMBER),
-            help: "The fault's argument, where it has one",
+            help: "The fault's argument, if it has one",
             rules: &[],
         },
     ],
@@ -150,7 +151,7 @@ pub(crate) fn hexadecimal_question(words: &[&str]) -> Option<Question> {
     Some(Question::Cause(LinkName::named(*link)?, cause))
 }
 
-/// What the words behind `explain` ask; `None` where they weren't matched by [`explain_command`].
+/// What the words behind `explain` ask; `None` if they weren't matched by [`explain_command`].
 pub(crate) fn question_of(explain: &ArgMatches<'_>) -> Option<Question> {
     match explain.subcommand()? {
         ("refused", refused) => Some(Question::Refusal(refused.get_one::<u8>("N")?)),

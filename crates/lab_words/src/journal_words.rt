@@ -1,4 +1,4 @@
-//! The words of a controller with a journal, and of its history.
+//! The options of a controller's journal and history.
 use crate::rows::{ArgumentRow, COUNTED, Form, NUMBER, Rule, TEXT, with_arguments};
 use clap::builder::ValueParser;
 use clap::{ArgMatches, Command};
@@ -11,16 +11,16 @@ const ENTRIES: usize = 100_000;
 /// What a controller does whose journal is lost.
 const WHEN_LOST: ValueParser<'static> = ValueParser::Names(&["end", "go-on"]);
 
-/// The journal that a controller has.
+/// The journal of a controller, as the options ask for it.
 #[derive(Clone, Copy, Debug, PartialEq, Eq)]
 pub struct JournalWords<'a> {
     /// The path of its folder.
     pub folder: &'a str,
-    /// How many of its files stay; all, where no number is asked for.
+    /// How many of its files are kept; all, if no number is given.
     pub keep: Option<usize>,
-    /// The last line that was heard whole: what was sent for later ones is told once more.
+    /// The last line of which everything was heard. What was sent for later lines is printed once more.
     pub heard: Option<u64>,
-    /// What the controller does, once the journal can't be written any more.
+    /// What the controller does once the journal can't be written any more.
     pub when_lost: WhenLost,
 }
 
@@ -29,13 +29,13 @@ const OPTIONS: &[ArgumentRow] = &[
     ArgumentRow {
         name: "HISTORY",
         form: Form::Valued("history", "N", COUNTED),
-        help: "After N events asked of the book the history begins anew (else 100000)",
+        help: "Begins the history of the book anew after N events (default: 100000)",
         rules: &[],
     },
     ArgumentRow {
         name: "JOURNAL",
         form: Form::Valued("journal", "FOLDER", TEXT),
-        help: "Notes in this folder what happened, and goes on from there next time",
+        help: "Keeps a journal in this folder, and goes on from it at the next start",
         rules: &[],
     },
     ArgumentRow {
@@ -47,13 +47,13 @@ const OPTIONS: &[ArgumentRow] = &[
     ArgumentRow {
         name: "HEARD",
         form: Form::Valued("heard", "M", NUMBER),
-        help: "Tells once more what was sent for the lines behind line M",
+        help: "Prints once more what was sent for the lines after line M",
         rules: &[Rule::Wants("JOURNAL")],
     },
     ArgumentRow {
         name: "LOST",
         form: Form::Valued("journal-lost", "WHAT", WHEN_LOST),
-        help: "Once it can't be written (else end)",
+        help: "If the journal is lost (default: end)",
         rules: &[Rule::Wants("JOURNAL")],
     },
 ];

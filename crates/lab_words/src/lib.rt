@@ -1,6 +1,7 @@
-//! The words of the command line: what they ask for, or why they are refused.
+//! Reads the words of the command line: what they ask for, or why they are refused.
 #![tactic(auto)]
 
+mod cells_words;
 mod explain_words;
 mod help;
 mod journal_words;
@@ -15,6 +16,7 @@ mod view_words;
 mod words;
 
 pub use journal_words::JournalWords;
+pub use script_words::TestFiles;
 pub use site_paths::{GivenPaths, SitePaths};
 pub use storm_words::StormSize;
 pub use trace_paths::{TraceEnd, TracePath};

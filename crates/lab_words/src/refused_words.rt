@@ -1,6 +1,6 @@
-//! Words that are refused, in one line for a person: which of them is wrong, and what is allowed.
+//! One line for a person about words that are refused: which word is wrong, and what is allowed.
 //!
-//! No clause says what the line holds: that is shown by tests.
+//! No clause says what the line holds: tests show it.
 use crate::words::lab_command;
 use clap::error::ErrorKind;
 use clap::{Command, Error};
@@ -70,10 +70,16 @@ fn with_decode_usage(alloc: Global, line: &str) -> Result<String, AllocError> {
 /// Commands with numbers among their words, those numbers, and what they may be.
 const NUMBERS: &[(&str, &str, &str)] = &[
     ("run", "'--call <N>'", "; N is a number from 0 to 65535"),
-    ("live", "'--history <N>'", "; N is a number from 1 on"),
-    ("live", "'--keep <N>'", "; N is a number from 1 on"),
-    ("live", "'--heard <M>'", "; M is a number from 0 on"),
-    ("rewind", "'[LINE]'", "; LINE is a number from 1 on"),
+    ("live", "'--history <N>'", "; N is a number, 1 or more"),
+    ("live", "'--keep <N>'", "; N is a number, 1 or more"),
+    ("live", "'--heard <M>'", "; M is a number, 0 or more"),
+    ("rewind", "'[LINE]'", "; LINE is a number, 1 or more"),
+    (
+        "record",
+        "'--accept <LINE>'",
+        "; LINE is a number, 1 or more",
+    ),
+    ("cells", "'<N>'", "; N is a number from 1 to 64"),
     ("storm", "'--workers <N>'", "; N is a number from 1 to 16"),
     ("storm", "'--calls <M>'", "; M is a number from 1 to 1024"),
     ("refused", "'<N>'", "; N is a number from 1 to 9"),
@@ -155,7 +161,7 @@ fn line_of(
     Ok(line)
 }
 
-/// What `clap` says of words that a command doesn't match; nothing where it does.
+/// What `clap` says of words that a command doesn't match; nothing if it does.
 fn fault_of<'a>(command: &mut Command<'a>, words: &'a [String]) -> Option<Error> {
     match command.try_get_matches_from_mut(words) {
         Ok(_matches) => None,

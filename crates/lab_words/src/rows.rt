@@ -1,7 +1,7 @@
-//! Arguments and commands as rows of tables, and what makes `clap`'s of them.
+//! Arguments and commands as rows of tables, from which `clap`'s arguments and commands are made.
 //!
-//! A table stands in the function that makes its command: one that named several would cost their proof more than all of
-//! these together.
+//! Each table is used in the function that makes its command. A function that used several would be more expensive to prove
+//! than all of these together.
 use clap::builder::ValueParser;
 use clap::{Arg, ArgAction, Command};
 use std::alloc::{AllocError, Global};

@@ -1,6 +1,6 @@
 //! The words of the commands that test and record scripts.
 use crate::help::{RECORD_HELP, TEST_HELP};
-use crate::rows::{ArgumentRow, CommandRow, Form, Rule, TEXT, command};
+use crate::rows::{ArgumentRow, COUNTED, CommandRow, Form, Rule, TEXT, command};
 use crate::site_paths::{GivenPaths, SitePaths};
 use crate::words::PEER;
 use clap::{ArgMatches, Command};
@@ -8,16 +8,25 @@ use expectations::Recording;
 use screen_text::Escaped;
 use std::alloc::{AllocError, Global};
 
-/// `test [SITE] SCRIPT.. [--peer SITE] [-k TEXT] [--junit FILE] [--undo-everywhere]`
+/// What tests write beside what they print.
+#[derive(Clone, Copy, Debug, PartialEq, Eq)]
+pub struct TestFiles<'a> {
+    /// The file of a report in the form of JUnit.
+    pub report: Option<&'a str>,
+    /// The folder in which is kept what came of the scripts that aren't met.
+    pub kept: Option<&'a str>,
+}
+
+/// `test [SITE] SCRIPT.. [--peer SITE] [-k TEXT] [--junit FILE] [--keep FOLDER] [--undo-everywhere]`
 const TEST: CommandRow = CommandRow {
     name: "test",
-    about: "Runs scripts, and says which print what their comments expect (TAP)",
+    about: "Runs scripts, and says which give what their comments expect (TAP)",
     after_help: TEST_HELP,
     arguments: &[
         ArgumentRow {
             name: "SITE",
             form: Form::Placed(TEXT),
-            help: "The site file (.toml); it may be left out where scripts name their own",
+            help: "The site file (.toml); may be left out if each script names its own",
             rules: &[Rule::Required],
         },
         ArgumentRow {
@@ -30,19 +39,25 @@ const TEST: CommandRow = CommandRow {
         ArgumentRow {
             name: "only",
             form: Form::Lettered('k', "TEXT", TEXT),
-            help: "Takes those scripts alone whose path has this text",
+            help: "Runs only the scripts that have this text in their path",
             rules: &[],
         },
         ArgumentRow {
             name: "report",
             form: Form::Valued("junit", "FILE", TEXT),
-            help: "Writes what came of each script to this file, in the form of JUnit",
+            help: "Also writes the results to this file, in the form of JUnit",
+            rules: &[Rule::Excludes("everywhere")],
+        },
+        ArgumentRow {
+            name: "kept",
+            form: Form::Valued("keep", "FOLDER", TEXT),
+            help: "Keeps trace, chart and capture of each script that isn't met in this folder",
             rules: &[Rule::Excludes("everywhere")],
         },
         ArgumentRow {
             name: "everywhere",
             form: Form::Flag("undo-everywhere"),
-            help: "Takes each open attempt back behind each input, in a run of its own",
+            help: "Undoes each open attempt after each input, in a run of its own",
             rules: &[],
         },
     ],
@@ -54,7 +69,7 @@ pub(crate) fn test_command<'a>(alloc: Global) -> Result<Command<'a>, AllocError>
     Ok(command.override_usage("bsc_lab test [OPTIONS] [SITE] <SCRIPT>..."))
 }
 
-/// `record [SITE] SCRIPT [--peer SITE] [--words] [--states]`
+/// `record [SITE] SCRIPT [--peer SITE] [--words] [--states] [--accept LINE]`
 const RECORD: CommandRow = CommandRow {
     name: "record",
     about: "Runs a script and prints it with comments that expect what came of each line",
@@ -66,13 +81,19 @@ const RECORD: CommandRow = CommandRow {
         ArgumentRow {
             name: "words",
             form: Form::Flag("words"),
-            help: "Expects messages in words, and leaves the line's echo out",
+            help: "Writes messages in words, and leaves out the echo of each line",
             rules: &[],
         },
         ArgumentRow {
             name: "states",
             form: Form::Flag("states"),
             help: "Also expects what the books hold: the channels in use, and each call",
+            rules: &[],
+        },
+        ArgumentRow {
+            name: "accept",
+            form: Form::Valued("accept", "LINE", COUNTED),
+            help: "Takes what came at this line alone; all other lines stay as they are",
             rules: &[],
         },
     ],
@@ -89,9 +110,12 @@ pub(crate) fn is_everywhere(test: &ArgMatches<'_>) -> bool {
     test.get_flag("everywhere")
 }
 
-/// The file that a report of the tests is to be written to.
-pub(crate) fn report_of<'a>(test: &ArgMatches<'a>) -> Option<&'a str> {
-    test.get_str("report")
+/// What the tests are to write beside what they print.
+pub(crate) fn test_files<'a>(test: &ArgMatches<'a>) -> TestFiles<'a> {
+    TestFiles {
+        report: test.get_str("report"),
+        kept: test.get_str("kept"),
+    }
 }
 
 /// How a script is to be recorded.
@@ -99,6 +123,7 @@ pub(crate) fn recording_of(record: &ArgMatches<'_>) -> Recording {
     Recording {
         words: record.get_flag("words"),
         states: record.get_flag("states"),
+        only: record.get_one::<usize>("accept"),
     }
 }
 
@@ -114,7 +139,7 @@ pub(crate) fn site_paths<'a>(matches: &ArgMatches<'a>) -> Option<SitePaths<'a>> 
 pub(crate) const FIRST: ArgumentRow = ArgumentRow {
     name: "SITE",
     form: Form::Placed(TEXT),
-    help: "The site file; it may be left out where the script names its own (#% site)",
+    help: "The site file; may be left out if the script names its own (#% site, #% cells)",
     rules: &[Rule::Required],
 };
 
@@ -131,7 +156,7 @@ fn is_site(path: &str) -> bool {
     path.ends_with(".toml")
 }
 
-/// The script that the words of `run` or `record` name, and the sites that are given for it; `None` where they name a site
+/// The script that the words of `run` or `record` name, and the sites that are given for it; `None` if they name a site
 /// alone.
 pub(crate) fn named_script<'a>(matches: &ArgMatches<'a>) -> Option<(GivenPaths<'a>, &'a str)> {
     let first = matches.get_str("SITE")?;

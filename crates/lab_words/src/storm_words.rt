@@ -14,7 +14,7 @@ const MOST_WORKERS: u8 = 16;
 /// The most calls of a storm.
 const MOST_CALLS: u16 = 1024;
 
-/// How great a storm is.
+/// The size of a storm.
 #[derive(Clone, Copy, Debug, PartialEq, Eq)]
 pub struct StormSize {
     /// How many workers handle the calls: 1 to 16.
@@ -28,7 +28,7 @@ pub struct StormSize {
 }
 
 impl StormSize {
-    /// A storm of so many workers and calls; nothing where there are too few or too many of either.
+    /// A storm with these numbers of workers and calls; nothing if either is too low or too high.
     pub fn new(workers: u8, calls: u16) -> Option<StormSize>
         ensures workers { IfSome result (λ size. size.workers ≡ workers) }
         ensures calls { IfSome result (λ size. size.calls ≡ calls) }
@@ -43,7 +43,7 @@ impl StormSize {
 /// `storm SITE --workers N --calls M`
 const STORM: CommandRow = CommandRow {
     name: "storm",
-    about: "Moves many calls at once, handled by workers on threads, and prints what came of it",
+    about: "Moves many calls at once, with workers on threads, and prints what came of them",
     after_help: STORM_HELP,
     arguments: &[
         SITE,

@@ -1,11 +1,11 @@
 //! The paths of traces.
 
-/// Whether a trace has to have its end.
+/// Whether a trace needs its end.
 #[derive(Clone, Copy, Debug, PartialEq, Eq)]
 pub enum TraceEnd {
-    /// It has to: where it has none it was cut, or its run isn't over.
+    /// It does. A trace without its end was cut, or its run isn't over.
     Needed,
-    /// It may be without: what of it is there is read.
+    /// It doesn't. What is there of it is read.
     Optional,
 }
 

@@ -20,7 +20,7 @@ const TRACE: ArgumentRow = ArgumentRow {
 const CUT: ArgumentRow = ArgumentRow {
     name: "cut",
     form: Form::Flag("cut"),
-    help: "Reads a trace that ends early, too, as far as it has whole lines",
+    help: "Also reads a trace that ends early, up to its last whole line",
     rules: &[],
 };
 
@@ -41,7 +41,7 @@ const REWIND: CommandRow = CommandRow {
         ArgumentRow {
             name: "all",
             form: Form::Flag("all"),
-            help: "Prints a line for each undone attempt, also of two controllers",
+            help: "Prints a line for each undone attempt, of one controller or of two",
             rules: &[Rule::Excludes("LINE")],
         },
         // what is required is passed over where something that excludes it is given, as the line is

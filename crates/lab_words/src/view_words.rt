@@ -3,14 +3,14 @@ use crate::rows::{ArgumentRow, Form, Rule, TEXT, with_arguments};
 use clap::builder::ValueParser;
 use clap::{ArgMatches, Command};
 use std::alloc::{AllocError, Global};
-use view_options::{SummaryForm, Views};
+use view_options::{ChartView, SummaryForm, Views};
 
 /// How a run ends.
 #[derive(Clone, Copy, Debug, PartialEq, Eq)]
 pub enum Ending {
     /// With the trace's end.
     Plain,
-    /// Behind that all settled attempts are taken out of what was asked, and what that comes to is printed.
+    /// With an audit after the trace's end: all settled attempts are taken out of the history, and the result is printed.
     Audit,
 }
 
@@ -28,19 +28,19 @@ const LIVE_OPTIONS: &[ArgumentRow] = &[
     ArgumentRow {
         name: "WORDS",
         form: Form::Flag("words"),
-        help: "Says call, message, causes and refusals of each line in words, behind #",
+        help: "Adds to each line, after #, its call, message, causes and refusals",
         rules: &[],
     },
     ArgumentRow {
         name: "STATE",
         form: Form::Flag("state"),
-        help: "Prints after each input what the book holds, at the end what is left",
+        help: "Prints what the book holds, after each input and at the end",
         rules: &[],
     },
     ArgumentRow {
         name: "decisions",
         form: Form::Flag("decisions"),
-        help: "Says behind each report of a call what came of each neighbour, and why",
+        help: "Prints after each report what was decided about each neighbour, and why",
         rules: &[],
     },
     ArgumentRow {
@@ -51,13 +51,25 @@ const LIVE_OPTIONS: &[ArgumentRow] = &[
     },
 ];
 
-/// `--chart FILE`, `--summary`, `--json`, `--lines`, `--call N` and `--audit`
+/// `--chart FILE`, `--chart-all`, `--chart-pages`, `--summary`, `--json`, `--lines`, `--call N` and `--audit`
 const RUN_OPTIONS: &[ArgumentRow] = &[
     ArgumentRow {
         name: "CHART",
         form: Form::Valued("chart", "FILE", TEXT),
         help: "Writes the run to this file, as a sequence chart in SVG",
         rules: &[],
+    },
+    ArgumentRow {
+        name: "chart-all",
+        form: Form::Flag("chart-all"),
+        help: "Shows on the chart also what is looked up in the book, look and owner",
+        rules: &[Rule::Wants("CHART")],
+    },
+    ArgumentRow {
+        name: "chart-pages",
+        form: Form::Flag("chart-pages"),
+        help: "Writes the chart as pages of 60 rows, to files as FILE-1.svg and so on",
+        rules: &[Rule::Wants("CHART")],
     },
     ArgumentRow {
         name: "summary",
@@ -74,19 +86,19 @@ const RUN_OPTIONS: &[ArgumentRow] = &[
     ArgumentRow {
         name: "lines",
         form: Form::Flag("lines"),
-        help: "Says behind each input which line of the script gave it, as in @12",
+        help: "Ends each input with the number of the script line that gave it, as in @12",
         rules: &[],
     },
     ArgumentRow {
         name: "CALL",
         form: Form::Valued("call", "N", ValueParser::Signed(0, 65535)),
-        help: "Shows, also on the chart, the lines about this call alone",
+        help: "Shows only the lines about this call, on the chart too",
         rules: &[Rule::Excludes("STATE"), Rule::Excludes("audit")],
     },
     ArgumentRow {
         name: "audit",
         form: Form::Flag("audit"),
-        help: "Takes all undone attempts out at the end, as audit does, and compares",
+        help: "At the end takes out all undone attempts, and compares, as audit does",
         rules: &[],
     },
 ];
@@ -125,6 +137,16 @@ fn summary_of(matches: &ArgMatches<'_>) -> Option<SummaryForm> {
     }
 }
 
+/// The chart, where the words of a command with `--chart` ask for one.
+fn chart_of<'a>(matches: &ArgMatches<'a>) -> Option<ChartView<'a>> {
+    let path = matches.get_str("CHART")?;
+    Some(ChartView {
+        path,
+        looks: matches.get_flag("chart-all"),
+        pages: matches.get_flag("chart-pages"),
+    })
+}
+
 /// The views that the words of a command with these options ask for.
 pub(crate) fn live_views_of<'a>(matches: &ArgMatches<'a>) -> Views<'a> {
     Views {
@@ -142,7 +164,7 @@ pub(crate) fn live_views_of<'a>(matches: &ArgMatches<'a>) -> Views<'a> {
 /// The views that the words of a command with these options ask for.
 pub(crate) fn views_of<'a>(matches: &ArgMatches<'a>) -> Views<'a> {
     Views {
-        chart: matches.get_str("CHART"),
+        chart: chart_of(matches),
         summary: summary_of(matches),
         lines: matches.get_flag("lines"),
         call: matches.get_one::<u16>("CALL"),

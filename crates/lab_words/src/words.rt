@@ -1,14 +1,15 @@
 //! The words of the command line.
 ghost use Rattle.std.specs.Prelude.{◌≡◌};
 
+use crate::cells_words::{cells_command, cells_job};
 use crate::explain_words::{explain_command, hexadecimal_question, question_of};
 use crate::help::{CHECK_HELP, DECODE_HELP, ENCODE_HELP, LIVE_HELP, RUN_HELP, with_messages};
 use crate::journal_words::{JournalWords, entries_of, journal_of, journal_options};
 use crate::refused_words::refused_line;
 use crate::rows::{ArgumentRow, CommandRow, Form, Rule, TEXT, command, with};
 use crate::script_words::{
-    FIRST, SECOND, given_paths, is_everywhere, lacks_script, named_script, none_named,
-    record_command, recording_of, report_of, script_paths, site_paths, test_command,
+    FIRST, SECOND, TestFiles, given_paths, is_everywhere, lacks_script, named_script, none_named,
+    record_command, recording_of, script_paths, site_paths, test_command, test_files,
 };
 use crate::site_paths::{GivenPaths, SitePaths};
 use crate::storm_words::{StormSize, storm_command, storm_size};
@@ -25,105 +26,108 @@ use clap::{ArgMatches, Command, Error};
 use decoded_lines::{Asked, Detail, LinkName, link_named};
 use expectations::Recording;
 use explanations::Question;
+use site_text::UniformSite;
 use std::alloc::{AllocError, Global};
 use view_options::{SummaryForm, Views};
 
 /// What the command line asks for.
 #[derive(Drop)]
 pub enum Job<'a> {
-    /// A script is run over a site, or over two where a peer's is named: the paths of the files, what is to be seen of the
-    /// run beside its trace, and how it ends.
+    /// Runs a script over a site, or over two if a peer is named: the paths of the files, the views beside the trace, and
+    /// how the run ends.
     Run {
         sites: GivenPaths<'a>,
         script: &'a str,
         views: Views<'a>,
         ending: Ending,
     },
-    /// A controller is given the lines of standard input as they come: the site's path, what is to be seen beside the
-    /// trace, line by line, after how many events its history begins anew, and the journal that it has.
+    /// Runs a controller with the lines of standard input as they come: the site's path, the views beside the trace, the
+    /// number of events after which its history begins anew, and its journal.
     Live {
         site: &'a str,
         views: Views<'a>,
         entries: usize,
         journal: Option<JournalWords<'a>>,
     },
-    /// An undone attempt is taken out of a trace: the site's path, the trace, and the line, counted from 1, in which the
+    /// Takes an undone attempt out of a trace: the site's path, the trace, and the line, counted from 1, in which the
     /// attempt opens.
     Rewind {
         site: &'a str,
         trace: TracePath<'a>,
         line: usize,
     },
-    /// All settled attempts are taken out of a trace: the site's path, and the trace.
+    /// Takes all settled attempts out of a trace: the site's path, and the trace.
     Audit {
         site: &'a str,
         trace: TracePath<'a>,
     },
-    /// Each undone attempt is taken out of a trace by itself, of one controller or of two: the paths of the sites, and the
+    /// Takes each undone attempt out of a trace, one at a time, of one controller or of two: the paths of the sites, and the
     /// trace.
     RewindAll {
         sites: SitePaths<'a>,
         trace: TracePath<'a>,
     },
-    /// What a trace came to is printed, counted: the trace, and how that is shown.
+    /// Prints the counts of a trace: the trace, and the form of the counts.
     Summary {
         trace: TracePath<'a>,
         form: SummaryForm,
     },
-    /// Each attempt of scripts is taken back at each point, over a site, or over two: the paths of the files.
+    /// Undoes each attempt of scripts at each point, over a site, or over two: the paths of the files.
     TryUndos {
         sites: GivenPaths<'a>,
         scripts: Vec<&'a str>,
     },
-    /// Scripts are tested over a site, or over two: the paths of the files, and of the report that is written, if one is.
+    /// Scripts are tested over a site, or over two: the paths of the files, and of those that are written beside what is
+    /// printed.
     Test {
         sites: GivenPaths<'a>,
         scripts: Vec<&'a str>,
-        report: Option<&'a str>,
+        written: TestFiles<'a>,
     },
-    /// A script is recorded over a site, or over two: the paths of the files, and how what comes is recorded.
+    /// Records a script over a site, or over two: the paths of the files, and the form of the record.
     Record {
         sites: GivenPaths<'a>,
         script: &'a str,
         recording: Recording,
     },
-    /// Many calls of a site move at once, handled by workers on threads: the site's path, and how many there are of both.
+    /// Moves many calls of a site at once, with workers on threads: the site's path, and the numbers of workers and calls.
     Storm {
         site: &'a str,
         size: StormSize,
     },
-    /// The cells of a site are printed, and what is surely meant otherwise in its file, also beside a peer's: the paths of the
-    /// files.
+    /// Prints the cells of a site and warnings about it, also about what its peer has otherwise: the paths of the files.
     Check {
         sites: SitePaths<'a>,
     },
-    /// A message, written in hexadecimal, is printed in words.
+    /// A site of cells alike is printed, as a site file has it.
+    Cells(UniformSite),
+    /// Prints a message, given in hexadecimal, in words.
     Decode {
         link: LinkName,
         text: &'a str,
     },
-    /// The messages that lines write in hexadecimal are printed in words: what is asked of the lines, and the path of
-    /// their file, `-` for standard input.
+    /// Prints messages, given in hexadecimal in lines, in words: what is asked of the lines, and the path of their file, `-`
+    /// for standard input.
     DecodeLines {
         asked: Asked,
         path: &'a str,
     },
-    /// A message, written in words, is printed in hexadecimal.
+    /// Prints a message, given in words, in hexadecimal.
     Encode {
         link: LinkName,
         text: &'a str,
     },
-    /// A number of a trace or of a message is said in words.
+    /// Explains a number of a trace or of a message in words.
     Explain(Question),
-    /// A text is shown: the help that was asked for, or the version.
+    /// Shows a text: the help that was asked for, or the version.
     Show(String),
 }
 
 /// Why the words ask for nothing.
 #[derive(Debug, Drop)]
 pub enum WordsFault {
-    /// The words are wrong, as this line for standard error says: which of them, and what is allowed. It has no control
-    /// characters, and no end of a line.
+    /// The words are wrong. This line, for standard error, says which of them, and what is allowed. It has no control
+    /// characters, and no line feed at its end.
     Refused(String),
     /// Memory was refused.
     NoMemory,
@@ -196,7 +200,7 @@ fn live_command<'a>(alloc: Global) -> Result<Command<'a>, AllocError> {
 /// `check SITE [--peer SITE]`
 const CHECK: CommandRow = CommandRow {
     name: "check",
-    about: "Reads a site and prints its cells, and what is surely meant otherwise",
+    about: "Reads a site, and prints its cells and warnings",
     after_help: CHECK_HELP,
     arguments: &[
         SITE,
@@ -223,7 +227,7 @@ const DECODE: CommandRow = CommandRow {
         ArgumentRow {
             name: "LINK",
             form: Form::Placed(LINKS),
-            help: "Where the message comes from",
+            help: "The link that the message comes from",
             rules: &[Rule::Unless("from")],
         },
         ArgumentRow {
@@ -239,13 +243,13 @@ const DECODE: CommandRow = CommandRow {
         ArgumentRow {
             name: "from",
             form: Form::Valued("from", "FILE", TEXT),
-            help: "A file with a message a line, or - for standard input",
+            help: "A file with one message in each line, or - for standard input",
             rules: &[],
         },
         ArgumentRow {
             name: "all",
             form: Form::Flag("all"),
-            help: "Says what each message doesn't use, too, and on abis the rr message inside",
+            help: "Also prints what each message doesn't use, and on abis the rr message inside",
             rules: &[Rule::Wants("from")],
         },
     ],
@@ -265,7 +269,7 @@ const ENCODE: CommandRow = CommandRow {
         ArgumentRow {
             name: "LINK",
             form: Form::Placed(LINKS),
-            help: "Where the message is for",
+            help: "The link that the message goes over",
             rules: &[Rule::Required],
         },
         ArgumentRow {
@@ -302,6 +306,7 @@ enum CommandName {
     Summary,
     Storm,
     Check,
+    Cells,
     Decode,
     Encode,
     Explain,
@@ -318,6 +323,7 @@ const COMMANDS: &[CommandName] = &[
     CommandName::Summary,
     CommandName::Storm,
     CommandName::Check,
+    CommandName::Cells,
     CommandName::Decode,
     CommandName::Encode,
     CommandName::Explain,
@@ -335,6 +341,7 @@ fn named_command<'a>(alloc: Global, name: CommandName) -> Result<Command<'a>, Al
         CommandName::Summary => summary_command(alloc),
         CommandName::Storm => storm_command(alloc),
         CommandName::Check => check_command(alloc),
+        CommandName::Cells => cells_command(alloc),
         CommandName::Decode => decode_command(alloc),
         CommandName::Encode => encode_command(alloc),
         CommandName::Explain => explain_command(alloc),
@@ -445,6 +452,7 @@ fn job_of<'a>(matches: &ArgMatches<'a>) -> Option<Job<'a>> {
         ("summary", summary) => summary_job(summary),
         ("storm", storm) => storm_job(storm),
         ("check", check) => check_job(check),
+        ("cells", cells) => cells_job(cells),
         ("decode", decode) => decode_job(decode),
         ("encode", encode) => encode_job(encode),
         ("explain", explain) => explain_job(explain),
@@ -465,7 +473,7 @@ fn test_job<'a>(alloc: Global, test: &ArgMatches<'a>) -> Result<Job<'a>, WordsFa
         Job::Test {
             sites,
             scripts,
-            report: report_of(test),
+            written: test_files(test),
         }
     })
 }
@@ -479,10 +487,7 @@ fn any_job_of<'a>(alloc: Global, matches: &ArgMatches<'a>) -> Result<Job<'a>, Wo
             // all else that a command lacks clap says
             None => Err(WordsFault::Refused(lacks_script(alloc, name)?)),
         },
-        None => Err(WordsFault::Refused(String::from_str(
-            alloc,
-            "error: the words ask for nothing",
-        )?)),
+        None => Err(WordsFault::Refused(String::from_str(alloc, "error: no command is given")?)),
     }
 }
 
@@ -497,10 +502,10 @@ fn unmatched<'a>(alloc: Global, words: &[&str], error: Error) -> Result<Job<'a>,
     }
 }
 
-/// Reads the words of a command line, those after the program's own name. A command that is named gives its job, a
-/// wish for help or for the version the text to be shown; all other words are refused by a line for standard error.
+/// Reads the words of a command line, those after the program's own name. A command gives its job. A request for help or for
+/// the version gives the text to be shown. All other words are refused, with a line for standard error.
 ///
-/// No clause says which words are which: that is shown by tests.
+/// No clause says which words are which: tests show it.
 pub fn read_words<'a>(alloc: Global, words: &'a [&'a str]) -> Result<Job<'a>, WordsFault> {
     if let Some(question) = hexadecimal_question(words) {
         return Ok(Job::Explain(question));

@@ -109,7 +109,7 @@ impl<A: Allocator + Copy> Known<A> {
     }
 }
 
-/// The calls of one controller or two, as far as the lines of their trace told them, or the book with which it begins.
+/// The calls of one controller or two, as far as the trace's lines, or the book with which the trace begins, show them.
 #[derive(Drop)]
 pub struct Calls<A: Allocator = Global> {
     first: Known<A>,
@@ -117,7 +117,7 @@ pub struct Calls<A: Allocator = Global> {
 }
 
 impl<A: Allocator + Copy> Calls<A> {
-    /// No call is known: the trace begins.
+    /// No call is known yet, at the beginning of a trace.
     pub fn new(alloc: A) -> Calls<A> {
         Calls {
             first: Known::new(alloc),
@@ -125,7 +125,7 @@ impl<A: Allocator + Copy> Calls<A> {
         }
     }
 
-    /// The calls that have a channel in the book of one controller are known: its trace begins with that.
+    /// The calls that have a channel in this book, with which the trace of one controller begins.
     pub fn of_book(alloc: A, book: &Book<A>) -> Result<Calls<A>, AllocError> {
         Ok(Calls {
             first: Known::of_book(alloc, book)?,
@@ -133,9 +133,9 @@ impl<A: Allocator + Copy> Calls<A> {
         })
     }
 
-    /// The call that the next line of the trace, which carries this, is about, 0 to 65535: the one that it names; of a
-    /// channel and of a message on Abis the call that had the channel last; of a fault and of a cell without a free channel
-    /// that of the input. `None` where neither the book at the beginning nor a line before it told one.
+    /// The call that the next line of the trace is about, 0 to 65535: the call that the line names; for a channel or a
+    /// message on Abis, the last call that had the channel; for a fault, or a cell without a free channel, the call of the
+    /// input. `None` if neither the book at the beginning nor an earlier line showed one. `content` is the line's content.
     pub fn call_of(
         &mut self,
         mark: Mark,

@@ -1,4 +1,4 @@
-//! What the octets of a line are, decoded once for all that is said of it.
+//! The contents of a line: its octets, decoded once for all its words.
 use crate::rowless::rowless_name;
 use bssmap_messages::{Bssmap, BssmapFault};
 use channel_fsm::ChanId;
@@ -8,22 +8,22 @@ use rsl_messages::{ChanBits, Rsl, RslFault};
 use std::alloc::{AllocError, Allocator, Global};
 use trace_text::trace::TraceLine;
 
-/// Where on Abis octets go or come from.
+/// The place on Abis that octets go to or come from.
 #[derive(Clone, Copy, Debug, PartialEq, Eq)]
 pub struct Place {
     pub cell: u8,
     pub trx: u8,
-    /// The channel that they are about: the one that their channel number names, also where they are wrong behind that.
-    /// `None` where they name none, or are of another protocol.
+    /// The channel that their channel number names, even if they are wrong after it. `None` if they name none, or belong to
+    /// another protocol.
     pub chan: Option<ChanId>,
 }
 
-/// What a line carries. A message is `None` where the octets are none.
+/// The content of a line. A message is `None` if the octets are no message.
 #[derive(Drop)]
 pub enum Content<A: Allocator = Global> {
     /// Octets on Abis.
     Abis(Place, Option<Rsl<A>>),
-    /// A message on Abis that the codec doesn't read, since no row takes it, by its name.
+    /// The name of a message on Abis that the codec doesn't read, because no row uses it.
     Rowless(Place, &'static str),
     /// Octets on A about a call.
     A(u16, Option<Bssmap<A>>),
@@ -144,7 +144,7 @@ fn content_out<A: Allocator + Copy>(
     }
 }
 
-/// What a line carries.
+/// The content of a line.
 pub fn content_of<A: Allocator + Copy>(
     alloc: A,
     line: &TraceLine<'_, A>,

@@ -4,7 +4,7 @@ use encoded_messages::{a_name, abis_name, rr_name};
 use std::alloc::{AllocError, Allocator};
 use trace_text::{abis, bssmap};
 
-/// The name of a message, and behind it that of the radio resource message inside, where there is one that can be read.
+/// The name of a message, and behind it that of the radio resource message inside, if there is one that can be read.
 fn name_with_layer3<A: Allocator>(
     alloc: A,
     name: &str,
@@ -24,8 +24,8 @@ fn name_with_layer3<A: Allocator>(
 /// The name of octets that are no message.
 const NO_MESSAGE: &str = "no message";
 
-/// The name of a message that comes or is sent, and behind a colon that of the radio resource message inside, where there
-/// is one: `DATA REQUEST: HANDOVER COMMAND`. `no message` where the octets are none, and where there are none.
+/// The name of a message that comes or is sent, and after a colon that of the radio resource message inside, if there is
+/// one: `DATA REQUEST: HANDOVER COMMAND`. `no message` if the octets are no message, or there are none.
 pub fn message_name<A: Allocator + Copy>(
     alloc: A,
     content: &Content<A>,

@@ -1,7 +1,7 @@
 //! What the book of a controller holds, as lines.
 //!
-//! A book is read by a call and by a channel. Which there may be is kept from the events that were asked, and found in the book
-//! with which they began.
+//! A book is read by a call or by a channel. Which ones to look for is known from the events that were asked, and from the
+//! book with which they began.
 use crate::held::{call_in, states_in};
 use channel_fsm::{ChanId, ChanState};
 use radio_book::book::Book;
@@ -21,7 +21,7 @@ struct Named<A: Allocator + Copy = Global> {
     alloc: A,
 }
 
-/// What the events of one controller or two named so far, and what their books had with which they began.
+/// The calls and channels that the events of one controller or two named so far, or that their books had at the beginning.
 #[derive(Drop)]
 pub struct StateLines<A: Allocator + Copy = Global> {
     first: Named<A>,
@@ -165,7 +165,7 @@ impl<A: Allocator + Copy> Named<A> {
 }
 
 impl<A: Allocator + Copy> StateLines<A> {
-    /// Nothing was asked of any book.
+    /// Nothing has been asked of any book.
     pub fn new(alloc: A) -> StateLines<A> {
         StateLines {
             first: Named::new(alloc),
@@ -173,7 +173,7 @@ impl<A: Allocator + Copy> StateLines<A> {
         }
     }
 
-    /// The book of one controller will be asked, which has this.
+    /// The calls and channels of the book with which one controller begins.
     pub fn of_book(alloc: A, book: &Book<A>) -> Result<StateLines<A>, AllocError> {
         Ok(StateLines {
             first: Named::of_book(alloc, book)?,
@@ -197,9 +197,9 @@ impl<A: Allocator + Copy> StateLines<A> {
         }
     }
 
-    /// Prints what the book of a controller, whose events were noted, holds, each line behind its mark: the channels that
-    /// aren't free, by cell, TRX and timeslot; the calls by number, as the book replies them, each with its handover
-    /// reference (cell and number) and its timer. `state empty` where there is nothing.
+    /// Prints what the book of a controller holds, each line after its mark. Its events have to be noted. First come the
+    /// channels that aren't free, by cell, TRX and timeslot; then the calls by number, as the book's replies give them, each
+    /// with its handover reference (cell and number) and its timer. `state empty` if there is nothing.
     pub fn print<W: Write>(
         &mut self,
         out: &mut W,

@@ -24,7 +24,7 @@ fn print_answer<W: Write>(out: &mut W, question: Question) -> io::Result<()> {
     }
 }
 
-/// The name of a cause, where there is one.
+/// The name of a cause, if there is one.
 fn print_cause<W: Write>(out: &mut W, cause: Option<Cause>) -> io::Result<()> {
     match cause {
         Some((link, cause)) => print_answer(out, Question::Cause(link, cause)),
@@ -39,7 +39,7 @@ fn print_rr<W: Write>(out: &mut W, message: Rr) -> io::Result<()> {
     print_cause(out, cause)
 }
 
-/// The radio resource message inside a message, where there is one that can be read.
+/// The radio resource message inside a message, if there is one that can be read.
 fn print_layer3<W: Write>(out: &mut W, layer3: Option<&[u8]>) -> io::Result<()> {
     let Some(layer3) = layer3 else {
         return Ok(());
@@ -130,7 +130,7 @@ fn print_call<W: Write>(out: &mut W, call: Option<u16>) -> io::Result<()> {
     }
 }
 
-/// Prints what stands behind a line that carries this, about this call, without ` # ` in front and without a line feed.
+/// Prints the words after a line with this content, about this call, without ` # ` before them and without a line feed.
 pub fn print_words<A: Allocator + Copy, W: Write>(
     out: &mut W,
     line: &TraceLine<'_, A>,
@@ -151,13 +151,13 @@ pub fn print_words<A: Allocator + Copy, W: Write>(
             print_call(out, call)?;
             print_bad(out, *bad)
         }
-        TraceLine::Limit => write!(out, "what still waited was dropped"),
+        TraceLine::Limit => write!(out, "the answers that still waited were dropped"),
         TraceLine::End(usage) => print_usage(out, *usage),
     }
 }
 
-/// Prints why nothing came of an input, behind its words: of a message, that no row expects it; of an operator's line,
-/// that the site has no such cell.
+/// Prints after its words why an input was ignored: no row expects the message, or the site has no such cell as the
+/// operator's line names.
 pub fn print_ignored<A: Allocator, W: Write>(out: &mut W, input: &Inbound<A>) -> io::Result<()> {
     match input {
         Inbound::Abis { .. } | Inbound::A { .. } => write!(out, "; ignored: no row"),
@@ -165,8 +165,8 @@ pub fn print_ignored<A: Allocator, W: Write>(out: &mut W, input: &Inbound<A>) ->
     }
 }
 
-/// Prints that no row goes on with an input at the stage that its call is in, behind its words: of an operator's line or a timer,
-/// that nothing came of it, since the reply of the book says why.
+/// Prints after its words that no row goes on with an input at the stage of its call. For an operator's line or a timer it
+/// prints that nothing changes, since the book's reply says why.
 pub fn print_out_of_stage<A: Allocator, W: Write>(
     out: &mut W,
     input: &Inbound<A>,

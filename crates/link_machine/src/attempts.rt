@@ -1,4 +1,4 @@
-//! Attempts at handover that were taken back.
+//! Attempts at handover that were undone.
 ghost use Rattle.std.specs.Prelude.{◌≡◌};
 ghost use Rattle.link_machine.specs.Attempts.{shown_on, undone_on};
 
@@ -16,8 +16,8 @@ fn shown_on(reply: Reply) -> Option<ChanId>
     }
 }
 
-/// The channel on which a call is served whose attempt at handover is taken back by this event, as its reply shows. `None` where
-/// none is, or where the call is served nowhere: it came from another controller.
+/// The serving channel of the call whose attempt at handover this event undoes, as its reply shows. `None` if no attempt is
+/// undone, or if the call has no serving channel because it came from another controller.
 pub fn undone_on(event: Event, reply: Reply) -> Option<ChanId>
     ensures served { result ≡ undone_on event reply }
 {

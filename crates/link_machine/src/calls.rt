@@ -9,22 +9,22 @@ use radio_book::book::Book;
 use radio_book::event::{CallRecord, Timer};
 use std::alloc::Allocator;
 
-/// What is known of a call besides the book: what it is for, and where its mobile is. All but its timer is said by whoever has the
-/// links of the call, and is forgotten with the call.
+/// What is known of a call besides the book: what it is for, and where its mobile is. The owner of the call's links says all
+/// of this but its timer. It is forgotten with the call.
 #[derive(Clone, Copy, Debug, PartialEq, Eq)]
 pub struct CallFacts {
-    /// Whether its mobile was told to leave the channel that it is served on, and wasn't heard since.
+    /// Whether its mobile was told to leave its serving channel, and wasn't heard since.
     pub is_away: bool,
-    /// Whether its measurement reports are heeded.
+    /// Whether its measurement reports are used.
     pub reports: bool,
-    /// Whether it came from the air: whoever has it opened for a mobile says so before.
+    /// Whether it came from the air. This is said before the call is opened for a mobile.
     pub is_from_air: bool,
     /// The timer that runs for it.
     pub timer: Option<Timer>,
 }
 
 impl CallFacts {
-    /// What is known of a call of which nobody has said anything: an operator's call, whose mobile is there.
+    /// What is known of a call about which nothing was said: an operator's call, with its mobile there.
     pub const PLAIN: CallFacts = CallFacts {
         is_away: false,
         reports: true,
@@ -89,7 +89,7 @@ fn use_of<A: Allocator + Copy>(book: &Book<A>, calls: &[CallFacts], call: u16, c
     }
 }
 
-/// Who has a channel, which a bar has or not.
+/// Who has a channel, by the book, and whether a bar has it.
 pub fn holder_of<A: Allocator + Copy>(
     book: &Book<A>,
     calls: &[CallFacts],

@@ -1,11 +1,11 @@
-//! A traffic channel, as far as the book doesn't say it.
+//! A traffic channel, as far as the book doesn't describe it.
 ghost use Rattle.std.specs.Prelude.{◌≡◌};
 ghost use Rattle.link_machine.specs.Channels.{noting, after, fresh};
 
 use channel_fsm::ChanId;
 use link_tables::{Act, Lchan, Step};
 
-/// What the controller is given about a channel in another's place, and hasn't read yet.
+/// An input about a channel that the controller is given in another's place, and hasn't read yet.
 #[derive(Clone, Copy, Debug, PartialEq, Eq)]
 pub enum InPlace {
     /// CHANNEL ACTIVATION NEGATIVE ACKNOWLEDGE, cause 20, in its station's place.
@@ -14,7 +14,7 @@ pub enum InPlace {
     Release,
     /// CONNECTION FAILURE INDICATION, cause 20, in its station's place.
     Failure,
-    /// An operator's line that opens a call of a fresh number on it: its bar.
+    /// An operator's line that opens a call with an unused number on it, as its bar.
     OpenBar,
     /// An operator's line that clears the call that is its bar.
     EndBar,
@@ -24,17 +24,17 @@ pub enum InPlace {
 #[derive(Clone, Copy, Debug, PartialEq, Eq)]
 pub struct Channel {
     pub chan: ChanId,
-    /// What its station was told of it.
+    /// What its station was told about it.
     pub lchan: Lchan,
     /// Whether the link of its TRX is there.
     pub has_link: bool,
-    /// Whether the call that has it is a bar.
+    /// Whether its call is a bar.
     pub is_barred: bool,
-    /// Whether it is to be barred, once the controller has read what was said of it.
+    /// Whether it is to be barred, once the controller has read what it is owed.
     pub is_to_be_barred: bool,
     /// Whether a failure of it is kept until its call's attempt at handover has ended.
     pub keeps_failure: bool,
-    /// What the controller is owed.
+    /// The input that the controller is owed.
     pub owed: Option<InPlace>,
 }
 

@@ -1,12 +1,13 @@
-//! Channels of a site at their stations: what a controller's book says of each, and what its station was told, brought together by
-//! the rows of docs/LINKS.md.
+//! Channels of a site at their stations. The rows of docs/LINKS.md keep what a controller's book says of each channel and
+//! what its station was told about it in agreement.
 //!
-//! A [`Machine`] has a [`Channel`] for each traffic channel of a site, and what is known of calls ([`CallFacts`]). It is told that
-//! the link of a TRX comes or goes ([`Machine::link`]), what is heard about a channel ([`Machine::tell`]; [`said_by`] says what a
-//! station's message is to it), and behind each turn of the controller that the book may have moved ([`Machine::settle`]). Each says
-//! what is to be done. The machine asks no desk: what is to be said to the book is owed to the controller, as inputs in another's
-//! place ([`InPlace`], [`Machine::take_owed`]). Of the events of a turn it is told one by one, too: timers of calls follow the book
-//! ([`Machine::follow`]), and a failure that was kept is told behind an attempt ([`Machine::end_attempt`]).
+//! A [`Machine`] has a [`Channel`] for each traffic channel of a site, and what is known of calls ([`CallFacts`]). It is
+//! told that the link of a TRX comes or goes ([`Machine::link`]), what is heard about a channel ([`Machine::tell`];
+//! [`said_by`] says what a station's message means for it), and that the controller has had a turn, in which the book may
+//! have changed ([`Machine::settle`]). Each call returns what is to be done. The machine asks no desk. What is to be said to
+//! the book is owed to the controller, as inputs in another's place ([`InPlace`], [`Machine::take_owed`]). The machine is
+//! also told the events of a turn, one by one: timers of calls follow the book ([`Machine::follow`]), and a failure that was
+//! kept is told after an attempt ([`Machine::end_attempt`]).
 #![tactic(auto)]
 
 mod attempts;

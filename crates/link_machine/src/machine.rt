@@ -29,8 +29,8 @@ use std::sync::Arc;
 /// How many numbers calls have.
 const CALLS: usize = 65_536;
 
-/// The channels of a site at their stations, and what is known of calls. Only making it asks for memory, and what is appended to
-/// the lists of callers.
+/// The channels of a site at their stations, and what is known of calls. Memory is asked for only when it is made, and when
+/// something is appended to a caller's list.
 #[derive(Drop)]
 pub struct Machine<A: Allocator = Global> {
     site: Arc<Site<A>, A>,
@@ -38,7 +38,7 @@ pub struct Machine<A: Allocator = Global> {
     calls: Vec<CallFacts, A>,
 }
 
-/// Appends a channel at rest, where there is one.
+/// Appends a channel at rest, if there is one.
 fn push_fresh<A: Allocator>(
     found: &mut Vec<Channel, A>,
     chan: Option<ChanId>,
@@ -100,7 +100,7 @@ fn owed_of(channel: Channel) -> Option<(ChanId, InPlace)>
 }
 
 impl<A: Allocator + Copy> Machine<A> {
-    /// All channels of a site are at rest, no station is there, and nothing is known of calls.
+    /// A machine with all channels of a site at rest, no station there, and nothing known of calls.
     pub fn new(alloc: A, site: Arc<Site<A>, A>) -> Result<Machine<A>, AllocError>
         ensures site { IfOk result (λ machine. machine.site.value ≡ site.value) }
         ensures channels { IfOk result (λ machine. machine.channels.items ≡
@@ -131,7 +131,7 @@ impl<A: Allocator + Copy> Machine<A> {
         facts_of(&self.calls, call)
     }
 
-    /// This is known of a call from here on.
+    /// Sets what is known of a call.
     pub fn set_facts(&mut self, call: u16, facts: CallFacts)
         ensures calls { self.new.calls.items ≡ slice_set self.old.calls.items call facts }
         ensures channels { self.new.channels.items ≡ self.old.channels.items }
@@ -143,7 +143,8 @@ impl<A: Allocator + Copy> Machine<A> {
         }
     }
 
-    /// A channel is told something, and does what its row says. `None`, and nothing is done, where the site has no such channel.
+    /// Tells a channel something; the channel does what its row says. `None`, and nothing is done, if the site has no such
+    /// channel.
     pub fn tell(&mut self, book: &Book<A>, chan: ChanId, word: Word) -> Option<Done>
         ensures done { result ≡ one_done (told book.now self.old.calls.items word)
             self.old.site.value self.old.channels.items chan }
@@ -159,8 +160,8 @@ impl<A: Allocator + Copy> Machine<A> {
         Some(moved.done)
     }
 
-    /// What the controller is owed about a channel, the first by its place about which it is owed anything; it is owed that no
-    /// more. `None`, just where it is owed nothing.
+    /// What the controller is owed about the first channel, by place, about which it is owed anything; it is no longer owed
+    /// then. `None` exactly if it is owed nothing.
     pub fn take_owed(&mut self) -> Option<(ChanId, InPlace)>
         ensures owed { result ≡ first_owed self.old.channels.items }
         ensures channels { self.new.channels.items ≡ first_paid self.old.channels.items }
@@ -177,8 +178,9 @@ impl<A: Allocator + Copy> Machine<A> {
         owed_of(channel)
     }
 
-    /// An event that the book has judged in the turn that it has behind it: the timer of the event's call runs from here on just
-    /// where the book has it armed. What stops and starts; `None` where nothing does. All events of a turn are followed.
+    /// Follows an event of the turn that the book has just had: from now on the timer of the event's call runs exactly if
+    /// the book has it armed. Returns what stops and starts; `None` if nothing does. All events of a turn have to be
+    /// followed.
     pub fn follow(&mut self, book: &Book<A>, event: Event) -> Option<TimerChange>
         ensures change { result ≡ change_by book.now self.old.calls.items (call_of event) }
         ensures calls { self.new.calls.items ≡
@@ -193,8 +195,8 @@ impl<A: Allocator + Copy> Machine<A> {
         change_of(call, known.timer, timer)
     }
 
-    /// An event of a turn, with its reply: where it takes an attempt at handover back, that ended so, and the channel on which its
-    /// call is served tells a failure that was kept, or drops it.
+    /// Follows an event of a turn, with its reply. If it undoes an attempt at handover, that ended in this way, and the
+    /// channel that serves its call tells a failure that was kept, or drops it.
     pub fn end_attempt(
         &mut self,
         book: &Book<A>,
@@ -214,7 +216,7 @@ impl<A: Allocator + Copy> Machine<A> {
         self.tell(book, chan, Word::AttemptEnded(end))
     }
 
-    /// The link of a TRX of a cell has come, or is gone: each of its channels does what its row says.
+    /// Tells that the link of a TRX of a cell has come up, or is lost: each of its channels does what its row says.
     pub fn link(
         &mut self,
         book: &Book<A>,
@@ -236,8 +238,9 @@ impl<A: Allocator + Copy> Machine<A> {
         go_through(book, &self.calls, pass, &mut self.channels, out)
     }
 
-    /// The controller has had a turn: each channel about which it is owed nothing does what its row says, where the book has moved
-    /// it; and is barred, where it is to be. Then each agrees with the book, unless the controller is owed something about it.
+    /// Tells that the controller has had a turn. Each channel about which it is owed nothing does what its row says, if the
+    /// book has changed it, and is barred if it is to be. After this each channel agrees with the book, unless the
+    /// controller is owed something about it.
     pub fn settle(
         &mut self,
         book: &Book<A>,

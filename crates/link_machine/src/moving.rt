@@ -16,22 +16,22 @@ use std::alloc::Allocator;
 pub enum Word {
     /// This is heard about it.
     Heard(Heard),
-    /// The link of its TRX has come, or is gone.
+    /// The link of its TRX has come up, or is lost.
     Link(bool),
-    /// An attempt at handover of its call has ended so.
+    /// An attempt at handover of its call has ended in this way.
     AttemptEnded(AttemptEnd),
 }
 
 /// A turn of the controller, as far as channels ask.
 #[derive(Clone, Copy, Debug, PartialEq, Eq)]
 pub struct TurnFacts {
-    /// The channel about which the controller was given something, and what the book had of it before.
+    /// The channel about which the controller was given an input, and its state in the book before.
     pub about: Option<(ChanId, ChanState)>,
-    /// The channel on which the controller said CHANNEL RELEASE.
+    /// The channel on which the controller sent CHANNEL RELEASE.
     pub sent_away: Option<ChanId>,
 }
 
-/// What a channel does, in order: what its row says, and how it is barred behind that.
+/// What a channel does, in order: what its row says, and then how it is barred.
 #[derive(Clone, Copy, Debug, PartialEq, Eq)]
 pub struct Done {
     pub chan: ChanId,
@@ -39,7 +39,7 @@ pub struct Done {
     pub bar: [Option<Act>; 3],
 }
 
-/// A channel behind what it does.
+/// A channel after what it does.
 #[derive(Clone, Copy, Debug, PartialEq, Eq)]
 pub struct Moved {
     pub channel: Channel,
@@ -254,7 +254,7 @@ fn settled_by(
     )
 }
 
-/// A channel behind a turn of the controller, and what it does. One about which the controller is still owed something waits.
+/// A channel after a turn of the controller, and what it does. If the controller is still owed something about it, it waits.
 pub fn settled<A: Allocator + Copy>(
     book: &Book<A>,
     calls: &[CallFacts],

@@ -13,7 +13,7 @@ use std::alloc::{AllocError, Allocator};
 /// What all channels of a site are told.
 #[derive(Clone, Copy, Debug, PartialEq, Eq)]
 pub enum Pass {
-    /// The link of a TRX of a cell has come, or is gone.
+    /// The link of a TRX of a cell has come up, or is lost.
     Link { cell: u8, trx: u8, is_up: bool },
     /// The controller has had a turn.
     Turn(TurnFacts),
@@ -50,7 +50,7 @@ fn is_nothing(acts: [Option<Act>; 3]) -> bool
     }
 }
 
-/// Appends what a channel does, where it is anything.
+/// Appends what a channel does, if it does anything.
 pub fn push_done<A: Allocator>(out: &mut Vec<Done, A>, done: Done) -> Result<(), AllocError>
     ensures told { OnOk result (out.new.items ≡ out.old.items ++ told_of done) }
     ensures unchanged { OnErr result (out.new.items ≡ out.old.items) }
@@ -62,7 +62,8 @@ pub fn push_done<A: Allocator>(out: &mut Vec<Done, A>, done: Done) -> Result<(),
     Ok(())
 }
 
-/// All channels are told something, and what each does is appended. Where memory is refused, so many have moved as are told.
+/// Tells all channels something, and appends what each does. If memory is refused, only the first channels have moved, and
+/// exactly what they do was appended.
 pub fn go_through<A: Allocator + Copy>(
     book: &Book<A>,
     calls: &[CallFacts],

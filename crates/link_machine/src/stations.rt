@@ -1,4 +1,4 @@
-//! What the rows of a channel hear in a message of its station.
+//! What a message of a station means for the rows of a channel.
 ghost use Rattle.std.specs.Prelude.{◌≡◌};
 ghost use Rattle.link_machine.specs.Stations.{has, says, heard_by, back_by, said_by};
 
@@ -17,9 +17,9 @@ const HANDOVER_COMPLETE: u8 = 0x2C;
 /// What a message of a station says to a channel.
 #[derive(Clone, Copy, Debug, PartialEq, Eq)]
 pub struct Said {
-    /// The channel that it is about. Whether the site has it isn't looked at.
+    /// The channel that it is about. The site may not have it.
     pub chan: ChanId,
-    /// What the rows of the channel hear. No row hears what is for the rows of calls alone.
+    /// What the rows of the channel hear; nothing if the message is only for the rows of calls.
     pub heard: Option<Heard>,
     /// The mobile says that it came back to this channel: HANDOVER FAILURE (TS 44.018 clause 9.1.17).
     pub is_back: bool,

@@ -1,4 +1,4 @@
-//! The timers of calls: T3103, T7 and T8 run just where a book has them armed.
+//! The timers of calls: T3103, T7 and T8 run exactly if a book has them armed.
 ghost use Rattle.std.specs.Prelude.{◌≡◌};
 ghost use Rattle.radio_book.specs.Table.{is_armed};
 ghost use Rattle.link_machine.specs.Timers.{not_armed, with_timer, is_change, if_change};
@@ -40,7 +40,7 @@ fn not_armed(running: Option<Timer>, armed: Option<Timer>) -> Option<Timer>
     }
 }
 
-/// What stops and what starts, so that the timer of a call which runs is the one that is armed; `None` where nothing does.
+/// What stops and what starts so that the running timer of a call is the armed one; `None` if nothing does.
 pub fn change_of(call: u16, running: Option<Timer>, armed: Option<Timer>) -> Option<TimerChange>
     ensures change { result ≡ if_change (record {
       call = call;
@@ -60,7 +60,8 @@ pub fn change_of(call: u16, running: Option<Timer>, armed: Option<Timer>) -> Opt
     }
 }
 
-/// What is known of a call whose timer is this one from here on. Of a call that a book doesn't have nothing else is known.
+/// What is known of a call whose timer is this one from now on. If a book doesn't have the call, nothing else is known of
+/// it.
 pub fn with_timer(facts: CallFacts, found: Option<CallRecord>, timer: Option<Timer>) -> CallFacts
     ensures facts { result ≡ with_timer facts found timer }
 {

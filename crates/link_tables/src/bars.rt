@@ -1,12 +1,13 @@
-//! Bars: what keeps calls away from a channel whose station refused it, or was silent.
+//! Bars, which keep calls away from a channel that its station refused, or about which it was silent.
 ghost use Rattle.std.specs.Prelude.{◌≡◌};
 ghost use Rattle.link_tables.specs.Bars.{bar_step};
 
 use crate::{Act, ChanState, Lchan, Step, Timer};
 
-/// How a channel is barred, once the controller has read that it was refused, or that nothing is awaited of it. A call that it
-/// holds, and that came from the air, becomes its bar itself; one of an operator or of the centre keeps it. Where it is free
-/// another one is opened on it. A timer ends the bar of a channel at rest; the station ends that of one that awaits it.
+/// Bars a channel, once the controller has read that it was refused, or that nothing more is awaited of it. If a call that
+/// came from the air holds it, this call becomes its bar. A call of an operator or of the centre keeps the channel. If the
+/// channel is free, a new call is opened on it as its bar. The bar of a channel at rest is ended by a timer; the bar of a
+/// channel that awaits its station is ended by the station.
 pub fn bar(lchan: Lchan, book: ChanState, is_from_air: bool) -> Step
     ensures table { result ≡ bar_step lchan book is_from_air }
 {

@@ -1,11 +1,11 @@
-//! What becomes of a failure that was kept while its call had an attempt at handover.
+//! Failures that were kept while their call had an attempt at handover.
 ghost use Rattle.std.specs.Prelude.{◌≡◌};
 ghost use Rattle.link_tables.specs.Failures.{ended_step};
 
 use crate::{Act, AttemptEnd, Lchan, Step};
 
-/// What a channel whose failure was kept does where the attempt has ended: the controller is told of the failure, if the call is
-/// on this channel still, and its mobile didn't say itself, on a channel that is on, that it is.
+/// What a channel with a kept failure does when the attempt has ended. The controller is told of the failure if the call is
+/// still on this channel, unless the channel is on and its mobile said itself that it is there.
 pub fn end_attempt(lchan: Lchan, end: AttemptEnd) -> Step
     ensures table { result ≡ ended_step lchan end }
 {

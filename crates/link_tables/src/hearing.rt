@@ -1,4 +1,4 @@
-//! What a channel does where something is heard about it.
+//! What a channel does when something is heard about it.
 ghost use Rattle.std.specs.Prelude.{◌≡◌, if◌then◌else◌};
 ghost use Rattle.link_tables.specs.declared.Lchan.TheVariants as state;
 ghost use Rattle.link_tables.specs.declared.Heard.TheVariants as message;
@@ -15,8 +15,8 @@ use Act::{
 use Holder::{Barred, Call, Nobody};
 use Lchan::{Activating, Closing, Guard, Lost, Mobile, On, Releasing, Reopening, Rest};
 
-/// What a channel does where this is heard about it, and its state behind that: the rows of docs/LINKS.md for what is heard.
-/// What no row names is counted, and changes nothing.
+/// What a channel does when this is heard about it, and its state afterwards: the rows of docs/LINKS.md for what is heard.
+/// Anything that no row names is counted, and changes nothing.
 pub fn hear(lchan: Lchan, heard: Heard, holder: Holder) -> Step
     ensures table { result ≡ heard_step lchan heard holder }
 {

@@ -2,15 +2,15 @@
 ghost use Rattle.link_tables.specs.Laws.{SettledAgrees, HeardAsksOnce, SettledAsksOnce, HeardAwaits, SettledAwaits};
 ghost use Rattle.link_tables.specs.Laws.{ClosingEnds, HeardRuns, SettledRuns};
 
-/// Behind a turn the channel agrees with the book, whatever both were before it: free or held with `Rest` and `Closing`,
-/// pending with `Activating` and `Reopening`, on with `On` and `Lost`, off with `Mobile`, `Guard` and `Releasing`. Where the
-/// controller is given an answer in the station's place, they agree once it has read that.
+/// After a turn the channel agrees with the book, whatever both were before it: free or held with `Rest` and `Closing`,
+/// pending with `Activating` and `Reopening`, on with `On` and `Lost`, off with `Mobile`, `Guard` and `Releasing`. If the
+/// controller is given an answer in the station's place, they agree once it has read this answer.
 pub fn settled_agrees()
     ensures law { SettledAgrees }
 {}
 
-/// A release or an activation leaves only where no release is awaited; and one is awaited just where it has left, and is neither
-/// answered nor gone with its link.
+/// A release or an activation is sent only if no release is awaited. A release is awaited exactly if it was sent, wasn't
+/// answered, and its link wasn't lost since.
 pub fn one_release()
     ensures heard { HeardAsksOnce }
     ensures settled { SettledAsksOnce }
@@ -18,12 +18,12 @@ pub fn one_release()
     ensures awaited_where_settled { SettledAwaits }
 {}
 
-/// `Closing` ends by RF CHANNEL RELEASE ACKNOWLEDGE or the end of the link alone.
+/// Only RF CHANNEL RELEASE ACKNOWLEDGE or the end of the link ends `Closing`.
 pub fn closing_ends_by_the_station()
     ensures law { ClosingEnds }
 {}
 
-/// A channel's timer runs just in its state.
+/// Each timer of a channel runs exactly in the state that it belongs to.
 pub fn timers_run_in_their_states()
     ensures heard { HeardRuns }
     ensures settled { SettledRuns }

@@ -1,4 +1,4 @@
-//! What a controller does with the links of its stations: the table of a traffic channel there (osmo-bsc's lchan FSM), and bars.
+//! What a controller does with the links of its stations: the table of a traffic channel (osmo-bsc's lchan FSM), and bars.
 //! docs/LINKS.md has its rows, by number. A row takes no memory and reads no octets.
 #![tactic(auto)]
 
@@ -22,21 +22,21 @@ pub use settling::settle;
 pub enum Lchan {
     /// It isn't active there.
     Rest,
-    /// CHANNEL ACTIVATION was sent (TS 48.058 clause 8.4.1), and isn't answered.
+    /// CHANNEL ACTIVATION was sent (TS 48.058 clause 8.4.1), and isn't answered yet.
     Activating,
     /// It is active there.
     On,
-    /// CHANNEL RELEASE was sent to the mobile, which hasn't left the link yet (TS 44.018 clause 3.4.13.1).
+    /// CHANNEL RELEASE was sent to the mobile, which hasn't released the link yet (TS 44.018 clause 3.4.13.1).
     Mobile,
-    /// The mobile has left the link; the channel stays active for a while, so that its last frame is acknowledged.
+    /// The mobile has released the link. The channel stays active for a while, so that the last frame is acknowledged.
     Guard,
-    /// RF CHANNEL RELEASE was sent (TS 48.058 clause 8.4.14), and isn't answered.
+    /// RF CHANNEL RELEASE was sent (TS 48.058 clause 8.4.14), and isn't answered yet.
     Releasing,
-    /// RF CHANNEL RELEASE was sent, and whoever had the channel doesn't wait for the answer: the channel does.
+    /// RF CHANNEL RELEASE was sent. The call that had the channel doesn't wait for the answer, but the channel does.
     Closing,
-    /// As `Closing`, and a call has the channel: its CHANNEL ACTIVATION is sent behind the answer.
+    /// As `Closing`, but a call has the channel. Its CHANNEL ACTIVATION is sent after the answer.
     Reopening,
-    /// It was active there when the link was lost. A call has it still, and its end is asked for.
+    /// It was active there when the link was lost. A call still has it, and is to be ended.
     Lost,
 }
 
@@ -60,9 +60,9 @@ impl Lchan {
 pub enum Timer {
     /// How long a station may take to answer CHANNEL ACTIVATION.
     Activation,
-    /// How long a mobile may take to leave the link (TS 44.018 clause 11.1.2).
+    /// How long a mobile may take to release the link (TS 44.018 clause 11.1.2).
     T3109,
-    /// How long a channel stays active behind that (TS 44.018 clause 11.1.2).
+    /// How long a channel stays active after that (TS 44.018 clause 11.1.2).
     T3111,
     /// How long a station may take to answer RF CHANNEL RELEASE.
     Release,
@@ -70,7 +70,8 @@ pub enum Timer {
     Bar,
 }
 
-/// What is heard about a channel: of its station, in the words of TS 48.058 clause 8; of a timer, of its link, of an operator.
+/// What is heard about a channel: from its station, by the names of TS 48.058 clause 8; from a timer; about its link; from
+/// an operator.
 #[derive(Clone, Copy, Debug, PartialEq, Eq)]
 pub enum Heard {
     ActivationAck,
@@ -84,7 +85,7 @@ pub enum Heard {
     /// Any other DATA INDICATION.
     DataIndication,
     EstablishIndication,
-    /// That of the main link, SAPI 0.
+    /// RELEASE INDICATION for the main link, SAPI 0.
     ReleaseIndication,
     /// A timer ran out.
     Expired(Timer),
@@ -109,36 +110,36 @@ pub enum Holder {
     Call(Use),
 }
 
-/// What a call has a channel for, as far as a row asks.
+/// What a call uses a channel for, as far as rows ask.
 #[derive(Clone, Copy, Debug, PartialEq, Eq)]
 pub struct Use {
     /// The call is served on it, and has an attempt at handover.
     pub leaves: bool,
-    /// The call is to arrive on it, and its mobile was told to leave where it is.
+    /// The call is to arrive on it, and its mobile was told to leave its channel.
     pub arrives: bool,
-    /// The call's measurements are heeded.
+    /// The call's measurement reports are used.
     pub reports: bool,
 }
 
-/// How things stand behind a turn in which the book has moved.
+/// The circumstances after a turn in which the book has changed.
 #[derive(Clone, Copy, Debug, PartialEq, Eq)]
 pub struct Circumstances {
     /// The link of the channel's TRX is there.
     pub has_link: bool,
-    /// In this turn the controller said CHANNEL RELEASE on the channel.
+    /// In this turn the controller sent CHANNEL RELEASE on the channel.
     pub said_channel_release: bool,
     /// The call that has it is a bar.
     pub is_bar: bool,
 }
 
-/// How an attempt at handover ended, for the channel on which its call was served when it began.
+/// How an attempt at handover ended, seen from the channel that served its call when it began.
 #[derive(Clone, Copy, Debug, PartialEq, Eq)]
 pub enum AttemptEnd {
     /// The mobile is on another channel.
     Arrived,
     /// The mobile came back: HANDOVER FAILURE (TS 44.018 clause 3.4.4.4).
     CameBack,
-    /// It was undone, and nobody heard the mobile.
+    /// It was undone, and nothing was heard of the mobile.
     TakenBack,
 }
 
@@ -147,9 +148,9 @@ pub enum AttemptEnd {
 pub enum Act {
     /// The controller is given what was heard.
     Give,
-    /// What was heard goes on to the rows of the call.
+    /// What was heard is passed on to the rows of the call.
     Pass,
-    /// What was heard is counted: it isn't expected.
+    /// What was heard isn't expected, and is counted.
     Count,
     /// In the station's place the controller is given CHANNEL ACTIVATION NEGATIVE ACKNOWLEDGE, cause 20.
     RefuseInPlace,
@@ -159,31 +160,31 @@ pub enum Act {
     FailInPlace,
     /// The failure is kept until the call's attempt has ended: see [`end_attempt`].
     KeepFailure,
-    /// CHANNEL ACTIVATION is sent, as the controller said it.
+    /// CHANNEL ACTIVATION is sent, as the controller wrote it.
     SendActivation,
     /// CHANNEL ACTIVATION isn't sent yet, and is kept.
     KeepActivation,
     /// RF CHANNEL RELEASE is sent.
     SendRelease,
-    /// CHANNEL RELEASE is sent to the mobile, as the controller said it, in a DATA REQUEST.
+    /// CHANNEL RELEASE is sent to the mobile, as the controller wrote it, in a DATA REQUEST.
     SendChannelRelease,
     /// DEACTIVATE SACCH is sent (TS 48.058 clause 8.4.5).
     SendDeactivateSacch,
-    /// A timer starts, anew if it runs.
+    /// A timer starts, or starts again if it is running.
     Start(Timer),
-    /// A timer stops, if it runs.
+    /// A timer stops if it is running.
     Stop(Timer),
-    /// The channel is to be barred, behind the controller's turn: see [`bar`].
+    /// The channel is to be barred after the controller's turn: see [`bar`].
     Bar,
     /// The call that holds the channel becomes its bar.
     BarByHolder,
-    /// A call of a number that nobody has is opened on the channel, as its bar.
+    /// A call with an unused number is opened on the channel, as its bar.
     OpenBar,
     /// The call that is the bar is cleared.
     EndBar,
 }
 
-/// What a row does, in order, and the state behind it.
+/// What a row does, in order, and the state after it.
 #[derive(Clone, Copy, Debug, PartialEq, Eq)]
 pub struct Step {
     pub acts: [Option<Act>; 3],

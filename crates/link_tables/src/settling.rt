@@ -1,4 +1,4 @@
-//! What a channel does where the book has moved.
+//! What a channel does when the book has changed.
 ghost use Rattle.std.specs.Prelude.{◌≡◌};
 ghost use Rattle.channel_fsm.specs.declared.ChanState.TheVariants as book;
 ghost use Rattle.link_tables.specs.Settling.{settled_step, is_pending};
@@ -10,8 +10,8 @@ use Act::{
 };
 use Lchan::{Activating, Closing, Guard, Lost, Mobile, On, Releasing, Reopening, Rest};
 
-/// What a channel does behind a turn of the controller, and its state behind that: the rows of docs/LINKS.md for what the book
-/// says now. The turn found the book at `before`, and left it at `now`.
+/// What a channel does after a turn of the controller, and its state afterwards: the rows of docs/LINKS.md for what the book
+/// says now. The turn changed the channel in the book from `before` to `now`.
 pub fn settle(lchan: Lchan, before: ChanState, now: ChanState, circumstances: Circumstances) -> Step
     ensures table { result ≡ settled_step lchan before now circumstances }
 {

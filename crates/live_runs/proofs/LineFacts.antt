@@ -9,7 +9,7 @@ use Rattle.std.proofs.lemmas.Str.{IsUtf8-from_is_utf8, is_utf8-from_IsUtf8}
 use Rattle.decoded_lines.specs.Reading.{is_feed, longest_line}
 use Rattle.lab_script.specs.declared.side.Side.{Side}
 use Rattle.lab_script.specs.declared.script.Given.{Given}
-use Rattle.lab_script.specs.declared.script.Given.TheVariants.{Input, Attach, Set, HangUp, Ask, MobileOf}
+use Rattle.lab_script.specs.declared.script.Given.TheVariants.{Input, Attach, Set, HangUp, Ask, MobileOf, Restart}
 use Rattle.lab_script.specs.declared.script.Item.{Item}
 use Rattle.lab_script.specs.Sides.{side_of, is_there}
 use Rattle.lab_script.specs.Said.{line_said, given}
@@ -37,6 +37,7 @@ no_attach side (Some (Set setting)) other = refl
 no_attach side (Some (HangUp call)) other = refl
 no_attach side (Some (Ask asked)) other = refl
 no_attach side (Some (MobileOf call habit)) other = refl
+no_attach side (Some (Restart restart)) other = refl
 
 attached_is_sim : (A : Type 0) (line : List ℕ) → attached {A = A} (item_of line) ≡ is_sim line
 attached_is_sim A line = elim (cases_Bool (is_sim line)) [

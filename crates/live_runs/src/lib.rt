@@ -1,9 +1,10 @@
-//! A controller that is given its lines one by one, as they come: each is handled at once, and who listens is told what came
-//! of it before the next is read.
+//! A controller that is given its lines one by one, as they come. Each line is handled at once, and a listener is told what
+//! came of it before the next line is read.
 //!
-//! A line is read by the rules of scripts (`line`). One that can't be read changes nothing; which it is, and why, is said
-//! (`unreadable`). A live controller is one over its book, with the simulators around it once a line attached them (`taking`);
-//! no turn of it is kept. It takes the lines of a reader, which may give them in pieces, to their end (`lines`).
+//! A line is read by the rules of scripts (`line`). A line that can't be read changes nothing; its number and the reason are
+//! told (`unreadable`). A live controller is a controller over its book, and the simulators around it once a line has
+//! attached them (`taking`). Turns aren't kept. It takes the lines of a reader, which may give them in pieces, to the end
+//! (`lines`).
 #![tactic(auto)]
 
 mod fault;

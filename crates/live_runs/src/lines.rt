@@ -37,7 +37,7 @@ fn read_next<A: Allocator, R: BufRead>(
 pub struct Rules {
     /// The number of the first line.
     pub first: usize,
-    /// Once the desk's history has so many entries, the desk begins anew behind a line.
+    /// The number of entries of the desk's history with which the desk begins anew, after a line.
     pub entries: usize,
     /// Whether a line may attach simulators.
     pub sims: bool,
@@ -156,7 +156,7 @@ fn say_unmet<A: Allocator + Copy, L: LiveListener<A>, E: Write>(
         Some(unmet) => {
             Ok(writeln!(
                 errors,
-                "standard input:{number}: nothing comes of it: {unmet}"
+                "standard input:{number}: this line has no effect: {unmet}"
             )?)
         }
         None => Ok(()),
@@ -301,20 +301,20 @@ fn run_to_end<A: Allocator + Copy, R: LineReader, L: LiveListener<A>, E: Write>(
     Ok(listener.hear_line_end(errors)?)
 }
 
-/// Runs a controller by the lines of a reader, each as it comes, from a book on: what a line gives is handled at once, and the
-/// listener is told what came of it, and that no more does, before the next line is read.
+/// Runs a controller with the lines of a reader, as they come, beginning with a book. What a line gives is handled at once.
+/// The listener is told what came of it, and that nothing more comes, before the next line is read.
 ///
-/// A line is read as one of a script for one controller; its last one needs no line feed. One that can't be read changes
-/// nothing: the listener is told its number, counted on from that of the first, and `errors` why; but of the line `summary` it
-/// is asked to tell what it counted. Where the rules allow no simulators, a line that attaches them can't be read. The listener
-/// is told where the reader has no other line yet. Behind a line with which the desk's history has as many entries as the rules
-/// say, or the listener wants it, the desk begins anew, and the listener is told. At the end of the reader the listener is told
-/// what the book holds. Where the reader's octets are known, what was handled is what exactly the lines that can be read give, in
-/// their order, however the reader cuts them; all other inputs are a simulator's by their source. Of a line that asks the book in
-/// vain `errors` is told why.
+/// A line is read as in a script for one controller; the last line needs no line feed. A line that can't be read changes
+/// nothing: the listener is told its number, counted on from that of the first line, and `errors` the reason. The line
+/// `summary` asks the listener for its counts. If the rules allow no simulators, a line that attaches them can't be read.
+/// The listener is told when the reader has no other line yet. The desk begins anew after a line with which its history has
+/// as many entries as the rules say, or if the listener wants it; the listener is told. At the end of the reader the
+/// listener is told what the book holds. If the reader's octets are known, exactly what the readable lines give was handled,
+/// in their order, however the reader cuts them; all other inputs have a simulator as their source. If a line asks the book
+/// in vain, `errors` is told why.
 ///
-/// `NoMemory`: memory was refused; the listener was told what is owed. `Write`: the listener or `errors` couldn't write. `Read`:
-/// the reader failed. After any of them what came before was handled.
+/// `NoMemory`: memory was refused; the listener was told what is owed. `Write`: the listener or `errors` couldn't write.
+/// `Read`: the reader failed. In each case, what came before was handled.
 pub fn live_run<A: Allocator + Copy, R: LineReader, L: LiveListener<A>, E: Write>(
     alloc: A,
     book: Book<A>,

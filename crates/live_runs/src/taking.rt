@@ -1,4 +1,4 @@
-//! A live controller: it is given its lines one by one.
+//! A live controller, which is given its lines one by one.
 ghost use Rattle.std.specs.Prelude.{◌≡◌, ◌↔◌, ◌≤◌, ◌∷◌, [], ◌||◌, true, false, IsTrue, length, IfOk, OnOk, OnErr};
 ghost use Rattle.lab_script.specs.Script.{is_item_there};
 ghost use Rattle.lab_runs.specs.Turns.{is_attach};
@@ -13,8 +13,8 @@ use radio_book::book::Book;
 use run_listeners::{LabFault, Listener};
 use std::alloc::{AllocError, Allocator, Global};
 
-/// A controller that is given its lines one by one, and the simulators around it once a line attached them. What came of a
-/// line isn't kept, but for what the book's history keeps.
+/// A controller that is given its lines one by one, and the simulators around it once a line has attached them. Of what came
+/// of a line only the book's history is kept.
 #[derive(Drop)]
 pub struct Live<A: Allocator + Copy = Global> {
     /// The controller, and the simulators around it.
@@ -23,7 +23,7 @@ pub struct Live<A: Allocator + Copy = Global> {
 }
 
 impl<A: Allocator + Copy> Live<A> {
-    /// A controller over a book, which was given nothing yet. No simulators are attached.
+    /// A controller over a book, which has been given nothing yet. No simulators are attached.
     pub fn over(alloc: A, book: Book<A>) -> Result<Live<A>, AllocError>
         ensures opening { IfOk result (λ live. BeginsWith book live.course.controllers.first) }
         ensures peer { IfOk result (λ live. has_peer live.course ≡ false) }
@@ -35,8 +35,8 @@ impl<A: Allocator + Copy> Live<A> {
         })
     }
 
-    /// Its desk begins anew with today's book, where its history has so many entries, and only there. The answer is whether it
-    /// did. Memory is asked for a copy of the book; where it is refused, the history is as it was.
+    /// Begins the desk anew with today's book exactly if its history has `entries` entries or more. The answer is whether it
+    /// did. Memory is asked for a copy of the book; if it is refused, the history is as it was.
     pub fn rest(&mut self, entries: usize) -> Result<bool, AllocError>
         ensures rested { OnOk result (Rests self.old self.new) }
         ensures when { IfOk result (λ anew. IsTrue anew ↔
@@ -65,11 +65,11 @@ impl<A: Allocator + Copy> Live<A> {
         Ok(())
     }
 
-    /// Takes a line, given without its line feed: does what it gives, and tells a listener what came of it. Where it can't
-    /// be read, nothing changes and nobody is told anything. The answer is whether it could be.
+    /// Takes a line, given without its line feed: handles what it gives, and tells a listener what came of it. If it can't
+    /// be read, nothing changes and nobody is told anything. The answer is whether it could be read.
     ///
-    /// Once memory was refused (`NoMemory`), or the listener couldn't write (`Write`), no more can be said of the controller
-    /// than that what it asked of its book stands. What it owes was told.
+    /// Once memory was refused (`NoMemory`), or the listener couldn't write (`Write`), only this is promised of the
+    /// controller: what it asked of its book stands. What it owes was told.
     pub fn take<L: Listener<A>>(&mut self, line: &[u8], listener: &mut L) -> Result<bool, LabFault>
         requires alone { has_peer self.old.course ≡ false }
         ensures takes { OnOk result (Takes true line.now self.old self.new) }

@@ -1,6 +1,6 @@
 //! Why a line can't be read, in words.
 //!
-//! No clause says what is said: that a line can't be read is said in `line`, by the rules of scripts.
+//! No clause says what is said. `line` says which lines can't be read, by the rules of scripts.
 use decoded_lines::LONGEST_LINE;
 use lab_script::script::without_return;
 use script_reasons::{Fault, LoneReason, Reason, line_reason, script_reason};
@@ -11,13 +11,13 @@ use std::{fmt, str};
 pub enum Unreadable<'a> {
     /// It has more octets than a line may have.
     TooLong,
-    /// It isn't UTF-8: the place, counted from 1, of the first octet that is no part of a text.
+    /// It isn't UTF-8: the place, counted from 1, of the first octet that doesn't belong to a text.
     NotText(usize),
     /// It is for a second controller, which a script may have.
     ForPeer,
-    /// It attaches simulators where none may be: what they have isn't in a journal.
+    /// It attaches simulators, which aren't allowed: their state isn't in a journal.
     NoSimulators,
-    /// It asks what came so far, and something stands behind that.
+    /// It asks for the counts so far, but has something after `summary`.
     BehindSummary,
     /// It is no line of a script, or asks something of simulators that aren't there.
     NotScript(Reason<'a>),
@@ -26,10 +26,10 @@ pub enum Unreadable<'a> {
 impl fmt::Display for Unreadable<'_> {
     fn fmt<W: fmt::Write>(&self, f: &mut fmt::Formatter<W>) -> fmt::Result {
         match self {
-            Unreadable::TooLong => write!(f, "a line has at most 65,536 octets"),
+            Unreadable::TooLong => write!(f, "the line has over 65,536 octets"),
             Unreadable::NotText(place) => write!(f, "isn't UTF-8 (octet {place})"),
             Unreadable::ForPeer => {
-                write!(f, "2: is for a second controller, and live runs one alone")
+                write!(f, "2: is for a second controller, but live runs only one")
             }
             Unreadable::NoSimulators => {
                 write!(
@@ -37,7 +37,7 @@ impl fmt::Display for Unreadable<'_> {
                     "simulators can't be attached to a controller with a journal"
                 )
             }
-            Unreadable::BehindSummary => write!(f, "nothing stands behind summary"),
+            Unreadable::BehindSummary => write!(f, "nothing may follow summary"),
             Unreadable::NotScript(reason) => write!(f, "{}", LoneReason(*reason)),
         }
     }
@@ -68,7 +68,7 @@ fn unreadable_by<'a>(text: &str, reason: Reason<'a>) -> Unreadable<'a> {
     }
 }
 
-/// Why a line can't be read, where simulators are attached or not; nothing where it can.
+/// Why a line can't be read, with simulators attached or not; nothing if it can be read.
 pub fn unreadable_of(line: &[u8], has_sim: bool) -> Option<Unreadable<'_>> {
     if line.len() > LONGEST_LINE {
         return Some(Unreadable::TooLong);

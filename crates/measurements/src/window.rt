@@ -8,8 +8,8 @@ use rr_elements::MeasResults;
 use std::alloc::{AllocError, Allocator, Global};
 use std::marker::Model;
 
-/// The last valid reports of a mobile, at most as many as the window was made for. Once so many have come behind
-/// it, a report is forgotten.
+/// The last valid reports of a mobile, at most as many as the window has room for. The oldest is forgotten when another one
+/// comes and the window is full.
 #[derive(Drop)]
 pub struct Window<A: Allocator = Global> {
     reports: HeapCircularBuffer<MeasResults, A>,
@@ -27,8 +27,7 @@ impl<A: Allocator> Model for Window<A> {
 }
 
 impl<A: Allocator> Window<A> {
-    /// An empty window in which the last `width` valid reports count, 1 to 32. All the room that it will need is made
-    /// here.
+    /// An empty window for the last `width` valid reports, 1 to 32. All its memory is asked for here.
     pub fn new(alloc: A, width: usize) -> Result<Window<A>, AllocError>
         requires some { 1 ≤ width }
         requires most { width ≤ 32 }
@@ -38,7 +37,7 @@ impl<A: Allocator> Window<A> {
         Ok(Window { reports })
     }
 
-    /// Adds a report. An invalid one (MEAS-VALID is 1) changes nothing; where the window is full, the oldest goes.
+    /// Adds a report. An invalid one (MEAS-VALID is 1) changes nothing. If the window is full, the oldest report is dropped.
     pub fn add(&mut self, report: &MeasResults)
         ensures reports { self.new.reports ≡
             last_valid self.old.width (self.old.reports ++ report.now ∷ []) }
@@ -50,14 +49,14 @@ impl<A: Allocator> Window<A> {
         }
     }
 
-    /// Forgets all reports. The room stays.
+    /// Forgets all reports. The memory is kept.
     pub fn clear(&mut self)
         ensures empty { self.new ≡ no_reports self.old.width }
     {
         self.reports.clear();
     }
 
-    /// How many reports there are.
+    /// The number of reports.
     pub fn len(&self) -> usize
         ensures len { result ≡ length self.now.reports }
         ensures most { result ≤ self.now.width }
@@ -83,8 +82,7 @@ impl<A: Allocator> Window<A> {
     }
 
     /// The levels of a neighbour cell, added up over the reports, by its carrier's position in the neighbour list and its
-    /// base station identity code: in each that of the first neighbour with both, or 0 where there is none. At most
-    /// 2,016.
+    /// base station identity code: in each that of the first neighbour with both, or 0 if there is none. At most 2,016.
     pub fn sum_of(&self, position: u8, bsic: u8) -> u32
         ensures sum { result ≡ sum_named position bsic self.now.reports }
         ensures most { result ≤ 2016 }

@@ -4,6 +4,7 @@ mod centre;
 mod courses;
 mod halves;
 mod moves;
+mod restarts;
 mod stations;
 
 use std::fmt::Debug;

@@ -62,7 +62,7 @@ impl<A: Allocator + Copy> Centre<A> {
     /// What comes of octets that a controller sends for a call: the messages that the centre sends then, in order.
     /// Octets that are no message, and messages to which the centre has no answer, come to nothing.
     ///
-    /// Where memory is refused, the centre is as it was.
+    /// If memory is refused, the centre is as it was.
     pub fn step(&mut self, controller: usize, call: u16, octets: &[u8]) -> Outs<A>
         ensures step { IfOk result (λ outs. Steps self.old controller call octets.now self.new
             outs.items) }

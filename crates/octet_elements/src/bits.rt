@@ -65,9 +65,9 @@ impl BitWriter {
         self.len = len;
     }
 
-    /// Appends the octets of the bit string, whose length is a multiple of eight: all of them, or none where memory is
-    /// refused, which comes only where the list has no room for them. A list that has room keeps its capacity. The first
-    /// bit is the first octet's highest.
+    /// Appends the octets of the bit string, whose length is a multiple of eight: all of them, or none if memory is refused,
+    /// which comes only where the list has no room for them. A list that has room keeps its capacity. The first bit is the
+    /// first octet's highest.
     #[inline]
     pub fn append_to<A: Allocator + Copy>(self, out: &mut Vec<u8, A>) -> Result<(), AllocError>
         requires whole { length self % 8 ≡ 0 }
@@ -101,7 +101,7 @@ impl Model for BitReader {
 }
 
 impl BitReader {
-    /// All bits of so many octets, one to sixteen; `None` where there are fewer or more.
+    /// All bits of so many octets, one to sixteen; `None` if there are fewer or more.
     #[inline]
     pub fn new(octets: &[u8], count: usize) -> Option<Self>
         requires some { 0 < count }
@@ -124,7 +124,7 @@ impl BitReader {
         })
     }
 
-    /// All bits of sixteen octets, which are read as two words; `None` where there are fewer or more.
+    /// All bits of sixteen octets, which are read as two words; `None` if there are fewer or more.
     #[inline]
     pub fn sixteen(octets: &[u8]) -> Option<Self>
         ensures bits { IfSome result (λ reader. reader ≡ bits_of octets.now) }

@@ -19,7 +19,7 @@ pub fn channel_type(sub: Sub) -> u8
     }
 }
 
-/// The part of a timeslot that a traffic channel with this channel type has; `None` where no traffic channel of one timeslot
+/// The part of a timeslot that a traffic channel with this channel type has; `None` if no traffic channel of one timeslot
 /// has it.
 #[inline]
 #[tactic(auto, unfolding(crate::specs::ChannelTypes::sub_of, crate::specs::ChannelTypes::subs))]

@@ -15,7 +15,7 @@ pub struct Leading<'a> {
     pub rest: &'a [u8],
 }
 
-/// The element that the octets begin with; `None` where they are empty or it is cut.
+/// The element that the octets begin with; `None` if they are empty or it is cut.
 #[inline(always)]
 pub fn leading_element<T: ElementTable>(octets: &[u8]) -> Option<Leading<'_>>
     ensures found { IfSome result (λ f. Fits T.form_of (f.identifier, f.value.now) ×

@@ -26,8 +26,8 @@ pub trait ElementTable {
 
     ghost known: { List ℕ };
 
-    /// The form of the elements with this identifier, and its place among those that the codec knows, from 0;
-    /// [`PLACES`] where it isn't one of them.
+    /// The form of the elements with this identifier, and its place among those that the codec knows, from 0; [`PLACES`] if
+    /// it isn't one of them.
     fn rule_for(identifier: u8) -> (Form, usize)
         ensures form { result.0 ≡ form_of identifier }
         ensures place { result.1 ≡ place_of identifier known };

@@ -73,7 +73,7 @@ pub fn append_octet<T: ElementTable, A: Allocator>(out: &mut Vec<u8, A>, identif
     }
 }
 
-/// Appends an element whose value is one octet, where there is one; the list has room for it.
+/// Appends an element whose value is one octet, if there is one; the list has room for it.
 #[inline]
 pub fn append_optional_octet<T: ElementTable, A: Allocator>(
     out: &mut Vec<u8, A>,
@@ -124,7 +124,7 @@ pub fn octet_len<T: ElementTable>(identifier: u8) -> usize
     element_len::<T>(identifier, &[0])
 }
 
-/// How many octets an element takes whose value is one octet, where there is one.
+/// How many octets an element takes whose value is one octet, if there is one.
 #[inline]
 pub fn optional_octet_len<T: ElementTable>(identifier: u8, octet: Option<u8>) -> usize
     ensures { result ≡ length (all_octets T.form_of (where_some identifier octet)) }

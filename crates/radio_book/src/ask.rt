@@ -1,9 +1,10 @@
-//! What a book is asked.
+//! Questions to a book.
 
 use crate::event::{Event, Kind};
 use channel_fsm::Rate;
 
-/// What a book is asked: an event, or one on what is free in the book. A call is named by its number, 0 to 65535.
+/// A question to a book: an event, or an event on something that is free in the book. A call is named by its number, 0 to
+/// 65535.
 #[derive(Clone, Copy, Debug, PartialEq, Eq)]
 pub enum Ask {
     /// This event.

@@ -109,7 +109,7 @@ impl<A: Allocator + Copy> Book<A> {
         Ok(Self { records })
     }
 
-    /// How much the book holds. Its contract also hands out that every book is sound.
+    /// How much the book holds. Its contract also says that every book is sound.
     pub fn usage(&self) -> Usage
         ensures channels { result.channels ≡ map.len self.now.channels }
         ensures calls { result.calls ≡ map.len self.now.calls }
@@ -125,7 +125,7 @@ impl<A: Allocator + Copy> Book<A> {
         }
     }
 
-    /// How many calls have a record. Its contract also hands out that every book is sound.
+    /// How many calls have a record. Its contract also says that every book is sound.
     pub fn calls(&self) -> usize
         ensures calls { result ≡ map.len self.now.calls }
         ensures sound { IsSound self.now }
@@ -147,21 +147,21 @@ impl<A: Allocator + Copy> Book<A> {
         self.records.state_of(chan)
     }
 
-    /// The call whose a channel is; `None` where it is free, or off. Takes no memory.
+    /// The call that has a channel; `None` if it is free, or off. Takes no memory.
     pub fn owner(&self, chan: ChanId) -> Option<u16>
         ensures owner { result ≡ owner (state_of self.now chan) }
     {
         self.records.owner_of(chan)
     }
 
-    /// The record of a call; `None` where there is no such call. Takes no memory.
+    /// The record of a call; `None` if there is no such call. Takes no memory.
     pub fn record(&self, call: u16) -> Option<CallRecord>
         ensures record { result ≡ record_of self.now call }
     {
         self.records.record(call)
     }
 
-    /// The timer that is armed for a call; `None` where none is, or where there is no such call. Takes no memory.
+    /// The timer that is armed for a call; `None` if none is, or if there is no such call. Takes no memory.
     pub fn timer(&self, call: u16) -> Option<Timer>
         ensures timer { result ≡ map.get self.now.timers call }
     {
@@ -178,8 +178,8 @@ impl<A: Allocator + Copy> Book<A> {
     /// Judges one event by the table: its refusal, or what it changes and its answer. A refused event
     /// changes nothing.
     ///
-    /// Memory is asked for only by an event that is accepted and begins a call: by `Open`, and by a `Take` of kind
-    /// `Incoming`. Where it is refused, the book is as it was.
+    /// Only an accepted event that begins a call asks for memory: `Open`, and a `Take` of kind `Incoming`. If memory is
+    /// refused, the book is as it was.
     pub fn step(&mut self, event: Event) -> Result<Reply, AllocError>
         ensures reply { IfOk result (λ reply. reply ≡ reply_to self.old event) }
         ensures book { OnOk result (self.new ≡ step self.old event) }
@@ -227,8 +227,8 @@ impl<A: Allocator + Copy> Book<A> {
         }
     }
 
-    /// Judges the event that is asked, as [`Book::choose`] chooses it and [`Book::step`] judges it: the event, with its answer.
-    /// `None`, just where no channel is free, changes nothing.
+    /// Judges the event that is asked, as [`Book::choose`] chooses it and [`Book::step`] judges it. The answer is the event,
+    /// with its reply. It is `None` exactly if no channel is free; nothing changes then.
     pub fn ask(&mut self, ask: Ask) -> Result<Option<(Event, Reply)>, AllocError>
         ensures none { (result ≡ Ok None) ↔ NoneFor self.old ask }
         ensures kept { result ≡ Ok None → self.new ≡ self.old }
@@ -316,7 +316,7 @@ impl<A: Allocator + Copy> Book<A> {
         }
     }
 
-    /// How many traffic channels of the cell are free, of both rates: 0 for a cell that the site lacks, and exactly where
+    /// How many traffic channels of the cell are free, of both rates: 0 for a cell that the site lacks, and exactly if
     /// [`Book::take_any`] finds none of either rate.
     pub fn free_in(&self, cell: u8) -> u32
         ensures count { IsFreeCount self.now cell result }

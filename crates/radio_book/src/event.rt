@@ -24,7 +24,7 @@ pub enum Why {
     Expired(Timer),
 }
 
-/// What may happen, and why it may be refused. A call is named by its number, 0 to 65535.
+/// The events, and why each may be refused. A call is named by its number, 0 to 65535.
 #[derive(Clone, Copy, Debug, PartialEq, Eq)]
 pub enum Event {
     /// A call begins on a channel, whose CHANNEL ACTIVATION is sent (TS 48.058 clause 8.4.1).
@@ -35,7 +35,7 @@ pub enum Event {
     ///
     /// Refused: `NoCall`, `WrongPhase` (an attempt is open).
     Clear(u16),
-    /// What the book has of a call is asked.
+    /// Asks for the record of a call.
     ///
     /// Refused: `NoCall`.
     Look(u16),
@@ -84,7 +84,7 @@ pub enum Event {
     ///
     /// Refused: `Unexpected` (the channel isn't [`ChanState::Off`]).
     Released(ChanId),
-    /// Whose a channel is, is asked.
+    /// Asks which call has a channel.
     ///
     /// Refused: `Unexpected` (no call has the channel).
     Owner(ChanId),
@@ -105,21 +105,21 @@ pub enum Event {
     Left(u16),
 }
 
-/// Why an event is refused. Of those that hold, the first in this order is answered.
+/// Why an event is refused. If several reasons apply, the answer is the first in this order.
 #[derive(Clone, Copy, Debug, PartialEq, Eq)]
 pub enum Refusal {
     /// The book has no such call.
     NoCall,
     /// The book has the call already.
     CallExists,
-    /// The call, or its attempt, has not come so far, or is past it.
+    /// The call, or its attempt, is at another stage than the event needs.
     WrongPhase,
     /// The site names no such traffic channel.
     NoChannel,
     /// The channel lies in the cell of the call's serving channel.
     SameCell,
-    /// This channel is in the way: the first of the whole timeslot, its lower and its upper half that is in use, and that is
-    /// the channel asked for or conflicts with it.
+    /// This channel is in the way: it is in use, and is the channel asked for or conflicts with it. It is the first such of
+    /// the whole timeslot, its lower and its upper half.
     ChannelBusy(ChanId),
     /// The handover reference is in use: its cell, and its number.
     RefBusy(u8, u8),
@@ -132,7 +132,7 @@ pub enum Refusal {
 /// What the book answers to an event.
 #[derive(Clone, Copy, Debug, PartialEq, Eq)]
 pub enum Reply {
-    /// The event was accepted, and there is nothing to tell.
+    /// The event was accepted. There is nothing else to say.
     Done,
     /// What the book had of the call, and the state of its serving channel.
     Record(CallRecord, Option<ChanState>),

@@ -1,4 +1,4 @@
-//! What an event says by itself, whatever the book has: a row of facts for each.
+//! The facts about each event that don't depend on the book: a row for each.
 ghost use Rattle.std.specs.Prelude.{◌≡◌, Some, true};
 ghost use Rattle.radio_book.specs.Kinds.{call_in, channel_in};
 ghost use Rattle.radio_book.specs.Facts.{facts_about, by_call, by_station, growth_of, event_facts};
@@ -11,7 +11,7 @@ use channel_fsm::ChanId;
 pub enum About {
     /// The call that it is asked for.
     Call(u16),
-    /// The channel of which a station speaks, or whose call is asked for.
+    /// The channel that a station's message is about, or for which the call is asked.
     Channel(ChanId),
 }
 

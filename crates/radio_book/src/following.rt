@@ -31,7 +31,7 @@ pub enum Phase {
 pub struct Followed {
     /// Whose it is.
     pub call: u16,
-    /// The channel that it took. `None` where it is another controller's.
+    /// The channel that it took. `None` if it is another controller's.
     pub target: Option<ChanId>,
     /// How far it has come.
     pub phase: Phase,
@@ -287,7 +287,7 @@ impl Followed {
     }
 }
 
-/// The attempt that opens with the step, at its beginning. `None` where none does.
+/// The attempt that opens with the step, at its beginning. `None` if none does.
 pub fn opening_of(step: &StepAt) -> Option<Followed>
     ensures opening { result ≡ opening_of step.now }
 {

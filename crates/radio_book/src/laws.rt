@@ -21,12 +21,12 @@ pub fn runs_are_sound()
     ensures sound { RunsAreSound }
 {}
 
-/// The stored inverses of an open attempt, run last first, are its undo.
+/// The stored inverses of an open attempt, run in reverse order, are its undo.
 pub fn inverses_undo()
     ensures undone { InversesUndo }
 {}
 
-/// Events with their replies lead to a book just where that is the book after them, and those their replies.
+/// Events with their replies lead to a book exactly if it is the book after them, and these are their replies.
 pub fn leads_is_run()
     ensures run { LeadsIsRun }
 {}
@@ -37,9 +37,8 @@ pub fn channels_take_steps()
     ensures steps { ChannelsTakeSteps }
 {}
 
-/// An undone attempt leaves no trace. From every sound book, by any events: where the attempt is settled, and none of
-/// the others met a held refusal, the book is the one that the others alone lead to, and each of them got the same
-/// reply.
+/// An undone attempt leaves no trace. From every sound book, by any events: if the attempt is settled, and none of the other
+/// events met a held refusal, the book is the one to which the other events alone lead, and each of them got the same reply.
 pub fn undone_attempts_leave_no_trace()
     ensures no_trace { UndoneAttemptsLeaveNoTrace }
 {}
@@ -50,9 +49,9 @@ pub fn undos_show_their_targets()
     ensures shown { UndosShowTheirTargets }
 {}
 
-/// All settled attempts leave no trace together. From every sound book, by any events: where no step was refused for what one
-/// of the attempts held that were undone and are settled, the book is the one that the steps which remain without all of them
-/// alone lead to, and each of these got the same reply.
+/// All settled attempts together leave no trace. From every sound book, by any events: if no step was refused because of
+/// what one of the undone and settled attempts held, the book is the one to which the remaining steps alone lead, and each
+/// of them got the same reply.
 pub fn settled_attempts_leave_no_trace()
     ensures no_trace { SettledAttemptsLeaveNoTrace }
 {}

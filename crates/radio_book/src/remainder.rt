@@ -52,7 +52,7 @@ fn follow<A: Allocator + Copy>(
     Ok(Trail { kept, held, last })
 }
 
-/// What stays of the steps without the undone attempt whose opening stands at a place. `None` where no such attempt opens
+/// What stays of the steps without the undone attempt whose opening stands at a place. `None` if no such attempt opens
 /// there.
 pub fn remainder_at<A: Allocator + Copy>(
     alloc: A,

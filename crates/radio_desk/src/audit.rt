@@ -1,4 +1,4 @@
-//! All attempts of a history that were undone and are settled, taken out together.
+//! Takes all attempts of a history that were undone and are settled out together.
 ghost use Rattle.std.specs.Prelude.{◌≡◌, ◌↔◌, ◌++◌, ◌+◌, ◌-◌, ◌<◌, ◌^◌, ◌∷◌, IsTrue, [], map, Some, None, is_some, is_none, ◌&&◌, if◌then◌else◌, IfOk};
 ghost use Rattle.std.specs.List.{list_all};
 ghost use Rattle.std.specs.Option.{option_to_list, option_or};
@@ -18,12 +18,13 @@ use radio_book::run::run;
 use radio_book::undone::StepAt;
 use std::alloc::{AllocError, Allocator};
 
-/// What a history tells of the attempts that were undone and are settled: their channels came back, or nothing was sent.
+/// The result for the attempts of a history that were undone and are settled: their channels were released, or no activation
+/// was sent.
 #[derive(Clone, Copy, Debug, PartialEq, Eq)]
 pub struct Audit {
     /// How many they are.
     pub attempts: usize,
-    /// Where the first entry stands, counted from 0, that was refused because one of them had the channel or the reference.
+    /// The place of the first entry, counted from 0, that was refused because one of them had the channel or the reference.
     pub held: Option<usize>,
     /// The entries that remain without all of them, asked alone, lead to the same book and get the same replies.
     pub same: bool,
@@ -128,7 +129,7 @@ pub(crate) struct Walk<A: Allocator> {
     pub attempts: usize,
     /// The steps that remain without them.
     pub remaining: Vec<StepAt, A>,
-    /// Where the first step stands that is held.
+    /// The place of the first held step.
     pub held: Option<usize>,
 }
 

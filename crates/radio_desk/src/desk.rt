@@ -93,8 +93,8 @@ impl<A: Allocator> Model for Desk<A> {
 }
 
 impl<A: Allocator + Copy> Desk<A> {
-    /// A desk that opens with this book, at which nothing was asked yet. Memory is asked for, for the copy that is kept of
-    /// the book, and for the room that is kept for what is owed in it.
+    /// A desk that opens with this book, and has been asked nothing yet. Memory is asked for: for the copy of the book that
+    /// is kept, and for the room that is kept for what is owed in it.
     pub fn new(alloc: A, book: Book<A>) -> Result<Desk<A>, AllocError>
         ensures opening { IfOk result (λ desk. desk.opening ≡ book) }
         ensures book { IfOk result (λ desk. desk.book ≡ book) }
@@ -110,8 +110,8 @@ impl<A: Allocator + Copy> Desk<A> {
         })
     }
 
-    /// How many events were judged. Its contract also hands out that the history leads from the opening book to the book,
-    /// and has room for all that is owed there.
+    /// How many events were judged. Its contract also says that the history leads from the opening book to the book, and has
+    /// room for all that is owed there.
     pub fn len(&self) -> usize
         ensures len { result ≡ length self.now.history }
         ensures legal { Leads self.now.opening self.now.history self.now.book }
@@ -128,7 +128,7 @@ impl<A: Allocator + Copy> Desk<A> {
         self.history.get(place)
     }
 
-    /// Whether the receipt is of this history: at its place stands its event with its reply.
+    /// Whether the receipt is of this history: its event with its reply is at its place.
     pub fn has(&self, receipt: &Receipt) -> bool
         ensures entry { IsTrue result ↔ IsEntryOf self.now.history receipt.now }
     {
@@ -174,12 +174,12 @@ impl<A: Allocator + Copy> Desk<A> {
         &self.book
     }
 
-    /// Asks the book what [`Book::choose`] chooses there, judges it as [`Book::step`] does, and keeps it with its reply, also
-    /// where it is refused. The receipt is the seat's last from then on. `None`, just where no channel is free for what is asked,
-    /// is no entry, changes nothing and takes no memory.
+    /// Asks the book what [`Book::choose`] chooses there, judges it as [`Book::step`] does, and keeps it with its reply,
+    /// also where it is refused. The receipt is the seat's last from then on. `None` exactly if no channel is free for what
+    /// is asked, is no entry, changes nothing and takes no memory.
     ///
-    /// `Foreign`, which is looked at first, exactly where the history doesn't hold the seat's last receipt. After either
-    /// fault desk and seat are as they were; after `NoMemory` the history may have got room.
+    /// `Foreign`, which is looked at first exactly if the history doesn't hold the seat's last receipt. After either fault
+    /// desk and seat are as they were; after `NoMemory` the history may have got room.
     ///
     /// An accepted `Undo` or `Released` takes no memory and is never refused any: its entry has the room that was kept for
     /// it, and the history gets no other. Before any other event changes the book, room is made for its entry and for what is

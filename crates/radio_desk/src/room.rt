@@ -23,7 +23,7 @@ use std::alloc::{AllocError, Allocator};
 /// that may be owed because of it.
 const MORE_ENTRIES: usize = 3;
 
-/// Room for an entry of each call and channel, and for three more. `None` where that is no `usize`.
+/// Room for an entry of each call and channel, and for three more. `None` if that is no `usize`.
 fn entries_for(calls: usize, channels: usize) -> Option<usize>
     ensures { MatchOption result (2 ^ 64 ≤ calls + channels + 3)
         (λ entries. entries ≡ calls + channels + 3) }
@@ -31,8 +31,8 @@ fn entries_for(calls: usize, channels: usize) -> Option<usize>
     calls.checked_add(channels)?.checked_add(MORE_ENTRIES)
 }
 
-/// Makes room for all that is owed in the book, and for three entries more. The entries stay, also where memory is
-/// refused. Its contract also hands out that the book is sound.
+/// Makes room for all that is owed in the book, and for three entries more. The entries stay, also if memory is refused. Its
+/// contract also says that the book is sound.
 pub(crate) fn make_room<A: Allocator + Copy>(
     history: &mut Vec<(Event, Reply), A>,
     book: &Book<A>,

@@ -4,7 +4,7 @@ ghost use Rattle.std.specs.Prelude.{◌≡◌, None, Some};
 use radio_book::undone::StepAt;
 use std::marker::Model;
 
-/// What an answered caller keeps: an entry of the history as a step, whose place is how many entries stand before it.
+/// What a caller keeps when it is answered: an entry of the history as a step. Its place is the number of entries before it.
 pub type Receipt = StepAt;
 
 /// One caller's place at a desk. Contracts see it as its last receipt.

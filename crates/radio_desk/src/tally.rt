@@ -1,4 +1,4 @@
-//! What a history tells of calls and handovers.
+//! Counts of calls and handovers in a history.
 ghost use Rattle.std.specs.Prelude.{◌≡◌, ◌&&◌};
 ghost use Rattle.radio_book.specs.declared.facts.Milestone.TheVariants as milestone;
 ghost use Rattle.radio_book.specs.Facts.{event_facts};

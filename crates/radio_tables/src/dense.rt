@@ -1,4 +1,4 @@
-//! Tables in which everything is found by its place.
+//! Tables in which everything has a place.
 ghost use Rattle.std.specs.Prelude.{◌≡◌, ◌↔◌, IfOk, IsTrue, is_some, cond, false};
 ghost use Rattle.radio_tables.specs.State.{empty_book};
 ghost use Rattle.radio_tables.specs.Dense.{timer_in};
@@ -16,7 +16,7 @@ use std::marker::Model;
 use std::sync::Arc;
 
 /// Tables in which each channel has a place by the site, each call a slot by its number, and each reference a place in its
-/// cell's row. Memory is asked for where they are made, where they are copied and where a call is added, and nowhere else.
+/// cell's row. Memory is asked for only when they are made, when they are copied, and when a call is added.
 #[derive(Drop)]
 pub struct DenseTables<A: Allocator = Global> {
     channels: ChannelStates<A>,

@@ -47,7 +47,7 @@ pub struct Attempt {
     pub kind: AttemptKind,
     /// How far it has come.
     pub stage: Stage,
-    /// The channel that the call is to move to. `None` where it is another controller's.
+    /// The channel that the call is to move to. `None` if it is another controller's.
     pub target: Option<ChanId>,
     /// The handover reference in the target's cell, 0 to 255. `None` in [`Stage::Taken`], and where there is no
     /// target.
@@ -59,6 +59,6 @@ pub struct Attempt {
 pub struct CallRecord {
     /// The channel that the call is on. `None` for a call that comes from another controller.
     pub serving: Option<ChanId>,
-    /// The attempt that is open. `None` where the call rests on its serving channel.
+    /// The attempt that is open. `None` if the call rests on its serving channel.
     pub attempt: Option<Attempt>,
 }

@@ -1,4 +1,4 @@
-//! What every kind of tables does.
+//! The operations of all kinds of tables.
 ghost use Rattle.std.specs.Prelude.{◌≡◌, ◌≢◌, ◌↔◌, ◌<◌, Bool, true, Some, None, OnOk, OnErr, IfSome, IfNone, IfOk, IsSome, IsTrue, length};
 ghost use Rattle.std.specs.FinMap as map;
 ghost use Rattle.std.specs.Option.{option_map};
@@ -12,10 +12,11 @@ use crate::kinds::{CallRecord, Reference};
 use channel_fsm::{ChanId, ChanState, Rate};
 use std::alloc::AllocError;
 
-/// Tables of channels, calls and references over a site. Contracts see them as finite maps: a free channel has no entry, nor
-/// has a call that isn't there or a reference that isn't in use, and the timers are those that are armed.
+/// Tables of channels, calls and references over a site. Contracts see them as finite maps. A free channel has no entry, nor
+/// has a call that isn't there, or a reference that isn't in use. The timers are the armed ones.
 ///
-/// What needs no new call is a change in place. Whether memory may be refused to one is a fact of each kind of tables.
+/// A change without a new call is a change in place. Each kind of tables says whether memory may be refused to such a
+/// change.
 pub trait Tables: Drop {
     // what the tables say
     ghost state: { Self → State };
@@ -23,7 +24,7 @@ pub trait Tables: Drop {
     // a change in place may be refused memory
     ghost may_refuse_in_place: { Bool };
 
-    /// The number of the site's own cells. Its contract also hands out where the site's traffic channels lie.
+    /// The number of the site's own cells. Its contract also says where the site's traffic channels lie.
     fn cells(&self) -> u8
         ensures value { result ≡ length (state self.now).site.cells }
         ensures traffic { TrafficLiesWithin (state self.now).site };
@@ -32,7 +33,7 @@ pub trait Tables: Drop {
     fn is_traffic(&self, x: ChanId) -> bool
         ensures value { result ≡ is_traffic (state self.now).site x };
 
-    /// The state of a channel; `None` where it isn't in use.
+    /// The state of a channel; `None` if it isn't in use.
     fn channel(&self, x: ChanId) -> Option<ChanState>
         ensures value { result ≡ map.get (state self.now).channels x };
 
@@ -51,16 +52,16 @@ pub trait Tables: Drop {
         requires busy { busy ≢ chan.Free }
         ensures moved { state self.new ≡ with_channel (state self.old) x (Some busy) };
 
-    /// A channel is in use no more.
+    /// A channel is no longer in use.
     fn vacate_channel(&mut self, x: ChanId)
         ensures freed { state self.new ≡ with_channel (state self.old) x None };
 
-    /// What is kept of a call; `None` where it isn't there.
+    /// What is kept of a call; `None` if it isn't there.
     fn entry(&self, call: u16) -> Option<CallEntry>
         ensures call { option_map (λ kept. kept.call) result ≡ map.get (state self.now).calls call }
         ensures timer { IfSome result (λ kept. kept.timer ≡ map.get (state self.now).timers call) };
 
-    /// The record of a call; `None` where it isn't there.
+    /// The record of a call; `None` if it isn't there.
     fn record_of(&self, call: u16) -> Option<CallRecord>
         ensures value { result ≡ map.get (state self.now).calls call };
 
@@ -70,12 +71,12 @@ pub trait Tables: Drop {
         ensures ok { OnOk result (state self.new ≡ with_kept (state self.old) call entry) }
         ensures err { OnErr result (state self.new ≡ state self.old) };
 
-    /// Something else is kept of a call that is there.
+    /// Replaces what is kept of a call that is there.
     fn set_entry(&mut self, call: u16, entry: CallEntry)
         requires there { IsSome (map.get (state self.old).calls call) }
         ensures kept { state self.new ≡ with_kept (state self.old) call entry };
 
-    /// Something else is kept of a call that is there, with the timer that was kept of it.
+    /// Replaces what is kept of a call that is there, and keeps its timer.
     fn set_record(&mut self, call: u16, entry: CallEntry)
         requires there { IsSome (map.get (state self.old).calls call) }
         requires timer { entry.timer ≡ map.get (state self.old).timers call }
@@ -85,7 +86,7 @@ pub trait Tables: Drop {
     fn remove_call(&mut self, call: u16)
         ensures gone { state self.new ≡ without_call (state self.old) call };
 
-    /// The call whose a reference is; `None` where it isn't in use.
+    /// The call that has a reference; `None` if it isn't in use.
     fn reference(&self, reference: Reference) -> Option<u16>
         ensures value { result ≡ map.get (state self.now).references reference };
 
@@ -117,8 +118,8 @@ pub trait Tables: Drop {
     fn timers(&self) -> usize
         ensures count { result ≡ map.len (state self.now).timers };
 
-    /// The free traffic channel of a cell at a rate with the lowest TRX, then timeslot, then half. Any free one meets the
-    /// contract.
+    /// The free traffic channel of a cell at a rate with the lowest TRX, then timeslot, then half. The contract allows any
+    /// free one.
     fn some_free(&self, cell: u8, rate: Rate) -> Option<ChanId>
         ensures found { IfSome result (λ x. IsFreeAt (state self.now) cell rate x) }
         ensures none { IfNone result (NoneFreeAt (state self.now) cell rate) };
@@ -128,12 +129,12 @@ pub trait Tables: Drop {
         ensures count { IsFreeCount (state self.now) cell result }
         ensures none { (result ≡ 0) ↔ NoneFree (state self.now) cell };
 
-    /// Whether two tables say the same.
+    /// Whether two tables have the same contents.
     fn is_same(&self, other: &Self) -> bool
         ensures same { IsTrue result ↔ (state self.now ≡ state other.now) };
 }
 
-/// Tables that can be copied: those whose allocator can.
+/// Tables that can be copied, because their allocator can be.
 pub trait CopyTables: Tables {
     /// A copy of the tables. Memory is asked for.
     fn copy(&self) -> Result<Self, AllocError>

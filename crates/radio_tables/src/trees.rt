@@ -1,4 +1,4 @@
-//! Trees, each seen as finite maps from its keys.
+//! Trees. Contracts see each as finite maps from its keys.
 ghost use Rattle.std.specs.Prelude.{◌≡◌, OnOk, OnErr, IfOk, None, IsSome, IfSome, is_some, count_by};
 ghost use Rattle.std.specs.BTreeMap.{values, IsOrdered};
 ghost use Rattle.std.specs.Ordering.{nat_cmp};
@@ -77,7 +77,7 @@ impl<A: Allocator + Copy> Channels<A> {
         self.states.get(&ChanKey::of(x)).copied()
     }
 
-    /// Memory is asked for where the key is new, and only there.
+    /// Memory is asked for only if the key is new.
     pub fn insert(&mut self, x: ChanId, state: ChanState) -> Result<(), AllocError>
         ensures ok { OnOk result (self.new ≡ map.insert self.old x state) }
         ensures err { OnErr result (self.new ≡ self.old) }
@@ -174,7 +174,7 @@ impl<A: Allocator + Copy> Calls<A> {
         }
     }
 
-    /// This is kept of a call from now on. Memory is asked for where the key is new, and only there.
+    /// This is kept of a call from now on. Memory is asked for only if the key is new.
     pub fn insert(&mut self, call: u16, entry: CallEntry) -> Result<(), AllocError>
         ensures ok { OnOk result (self.new ≡ with_kept self.old call entry) }
         ensures err { OnErr result (self.new ≡ self.old) }
@@ -271,7 +271,7 @@ impl<A: Allocator + Copy> References<A> {
         self.users.get(&reference).copied()
     }
 
-    /// Memory is asked for where the key is new, and only there.
+    /// Memory is asked for only if the key is new.
     pub fn insert(&mut self, reference: Reference, call: u16) -> Result<(), AllocError>
         ensures ok { OnOk result (self.new ≡ map.insert self.old reference call) }
         ensures err { OnErr result (self.new ≡ self.old) }

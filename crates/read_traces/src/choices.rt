@@ -1,8 +1,8 @@
-//! The choices that a trace tells.
+//! The choices of channels in a trace.
 //!
-//! At which rate a channel was asked for isn't in a trace. So its inputs are handled again: where the same comes of them, the
-//! choices are those of that run. Of another trace, as of one that a person wrote, or that begins with a book, the events that
-//! take a channel are its choices.
+//! A trace doesn't say at which rate a channel was asked for. So its inputs are handled again. If the same comes of them,
+//! the choices are those of that run. In any other trace, such as one that a person wrote, or one that begins with a book,
+//! the events that take a channel are its choices.
 use crate::reading::Told;
 use cell_table::SiteFault;
 use lab_runs::course::Run;
@@ -16,7 +16,7 @@ use std::io;
 use trace_entries::entries::Entry;
 use trace_text::trace::Step;
 
-/// The texts of a site and of a trace, and memory that serves while the site's is read.
+/// The texts of a site and of a trace, and memory for reading the site.
 #[derive(Clone, Copy)]
 pub struct Texts<'a> {
     pub scratch: Global,
@@ -65,7 +65,7 @@ pub fn event_lines<A: Allocator>(alloc: A, entries: &[Entry]) -> Result<Vec<usiz
     Ok(lines)
 }
 
-/// What comes of the inputs of a trace over the empty book of a site; nothing where they can't be handled.
+/// What comes of the inputs of a trace over the empty book of a site; nothing if they can't be handled.
 fn run_of<A: Allocator + Copy>(alloc: A, texts: Texts<'_>) -> Result<Option<Run<A>>, LabFault> {
     let sites = match read_sites(alloc, texts.scratch, texts.site, None) {
         Ok(sites) => sites,
@@ -97,7 +97,7 @@ impl<'a> Rest<'a> {
         self.events.is_empty() && self.none_free == 0
     }
 
-    /// What is told behind a step; nothing where that isn't told next.
+    /// What is told behind a step; nothing if that isn't told next.
     fn behind(self, step: &Step) -> Option<Rest<'a>> {
         match (step, self.events) {
             (Step::NoneFree(..), events) => Some(Rest {
@@ -151,7 +151,7 @@ fn came_of<A: Allocator + Copy>(run: &Run<A>, told: Rest<'_>) -> bool {
     rest.is_empty()
 }
 
-/// The choices that a trace over the empty book of a site tells, whose lines can be read, in their order.
+/// The choices in a trace over the empty book of a site, in order. The trace's lines can be read.
 pub fn choices_of_trace<A: Allocator + Copy>(
     alloc: A,
     texts: Texts<'_>,

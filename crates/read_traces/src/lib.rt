@@ -1,5 +1,5 @@
-//! Traces that are read back: the events in their lines, asked once more of the empty book of their site
-//! (`reading`), why one can't be (`reasons`), and an undone attempt taken out of them (`rewound`).
+//! Reads traces back: asks their events once more of the empty book of their site (`reading`), says why a trace can't be
+//! read (`reasons`), and takes an undone attempt out of it (`rewound`).
 #![tactic(auto)]
 
 pub mod choices;

@@ -1,4 +1,4 @@
-//! A trace that is read back over the empty book of a site, from which all its replies come.
+//! Reads a trace back over the empty book of its site, from which all its replies come.
 ghost use Rattle.std.specs.Prelude.{◌≡◌, IfOk, IfErr, IfSome, IfNone};
 ghost use Rattle.radio_book.specs.State.{empty_book};
 ghost use Rattle.radio_book.specs.Run.{run_replies};
@@ -15,7 +15,7 @@ use std::io::Write;
 use std::sync::Arc;
 use trace_entries::entries::{Entry, Foreign, entries_of, first_other, has_replies};
 
-/// What a trace tells.
+/// The contents of a trace.
 #[derive(Drop)]
 pub struct Told<A: Allocator = Global> {
     pub entries: Vec<Entry, A>,
@@ -73,8 +73,8 @@ fn refuse_foreign<A: Allocator + Copy, W: Write>(
     Ok(())
 }
 
-/// What a trace tells whose lines can be read; nothing where it has other replies than the book gives, and then the number of
-/// the first line that has one was printed.
+/// The contents of a trace whose lines can be read. Nothing if it has another reply than the book gives; then the number of
+/// the first such line was printed.
 pub fn told_entries<A: Allocator + Copy, W: Write>(
     alloc: A,
     book: &Book<A>,
@@ -110,8 +110,8 @@ fn foreign_in<A: Allocator + Copy>(
     first_other(alloc, trace, &told.entries, &replies)
 }
 
-/// The first entry of a trace that has another reply than the empty book of a site gives; nothing where each has the
-/// book's. The lines of the trace can be read, and the text describes a site.
+/// The first entry of a trace with another reply than the book gives, beginning with the empty book of a site; nothing if
+/// all replies are the book's. The lines of the trace can be read, and the text describes a site.
 pub fn foreign_entry(alloc: Global, site: &str, trace: &str) -> Result<Option<Foreign>, LabFault> {
     let site = match Site::read(alloc, alloc, site) {
         Ok(site) => site,

@@ -31,12 +31,12 @@ fn say_unreadable<E: Write>(
     if line.starts_with("1: ") || line.starts_with("2: ") {
         writeln!(
             errors,
-            "{path}:{number}: a line of the trace of two controllers, and {command} takes that of one"
+            "{path}:{number}: this is a trace of two controllers, but {command} reads the trace of one"
         )
     } else {
         writeln!(
             errors,
-            "{path}:{number}: no event with its reply, as run prints it: event look 1 -> refused 1"
+            "{path}:{number}: this isn't an event with its reply, as in: event look 1 -> refused 1"
         )
     }
 }
@@ -54,19 +54,19 @@ fn say_foreign<E: Write>(
     if line.contains(" # ") {
         return writeln!(
             errors,
-            "{path}:{number}: words stand behind this event, as run prints it with --words"
+            "{path}:{number}: words follow this event: the trace was printed with --words"
         );
     }
     let found = Shown(reply_text(line).unwrap_or(""));
     writeln!(
         errors,
-        "{path}:{number}: the book of this site replies \"{}\" here, and the trace says {found}",
+        "{path}:{number}: the book of this site replies \"{}\" here, but the trace says {found}",
         ReplyText(foreign.reply)
     )
 }
 
-/// Says why a command can't read a trace over a site, both given as texts, of which the site's describes one: the first line
-/// that can't be read, or else the first entry with another reply than the book gives. Answers whether there is one.
+/// Says why a command can't read a trace over a site, both given as texts: the first line that can't be read, or else the
+/// first entry with another reply than the book gives. The answer is whether there is one. The site's text describes a site.
 pub fn say_untold<E: Write>(
     alloc: Global,
     site: &str,

@@ -1,4 +1,4 @@
-//! An undone attempt, taken out of a trace.
+//! Takes an undone attempt out of a trace.
 ghost use Rattle.std.specs.Prelude.{◌≡◌, ◌≢◌, ◌↔◌, ◌+◌, ◌<◌, ◌^◌, ℕ, Ok, Err, Some, None, IsTrue, IfOk, IfErr, OnOk, IfSome, IfNone, slice_get};
 ghost use Rattle.cell_table.specs.SiteFile.{IsBlankFile};
 ghost use Rattle.radio_book.specs.State.{empty_book};
@@ -40,7 +40,7 @@ fn refuse_attempt<W: Write>(out: &mut W) -> Result<Status, LabFault>
     Ok(Status::Refused)
 }
 
-/// Whether this reply stands at a place.
+/// Whether this reply is at this place.
 pub fn is_reply_at(replies: &[Reply], place: usize, reply: &Reply) -> bool
     ensures same { IsTrue result ↔ (slice_get replies.now place ≡ Some reply.now) }
 {
@@ -66,7 +66,7 @@ fn are_same_replies(whole: &[Reply], others: &[usize], without: &[Reply]) -> boo
     others.is_empty() && without.is_empty()
 }
 
-/// Whether the attempt left no trace: both books are the same, and the others got the same replies.
+/// Whether the attempt left no trace: both books are the same, and the other events got the same replies.
 pub fn is_same<A: Allocator>(rewound: &Rewound<A>) -> bool
     ensures same { IsTrue result ↔ IsSame rewound.now }
 {
@@ -247,21 +247,21 @@ fn rewind_trace<A: Allocator + Copy, W: Write>(
     rewind_entries(alloc, &book, texts, line, out)
 }
 
-/// Takes an undone attempt out of a trace, as [`lab_run`](lab_runs::run::lab_run) prints it from the empty book on, and
-/// prints what stays to `out`.
+/// Takes an undone attempt out of a trace, and prints what stays to `out`. The trace is one that
+/// [`lab_run`](lab_runs::run::lab_run) prints, from the empty book on.
 ///
-/// The trace's lines that begin with `event ` are its events, of which the one in `line`, counted from 1, opened the
-/// attempt. Five lines are printed: `others` and how many events stay, `settled` and `yes` or `no`, `held` and the number
-/// of the line of the first held refusal or `-`, `choices` and the numbers of the lines in which a channel was chosen, or none
-/// was free, where the book without the attempt would have given another or one, or `-`, and `same` where the book after
-/// all events is the one after the others alone, and the others got the same replies, else `differs: ` and what does
-/// first. Then the answer is `Done` or `Differs`.
+/// The trace's lines that begin with `event ` are its events. The one in line `line`, counted from 1, opened the attempt.
+/// Five lines are printed: `others` and how many events stay; `settled` and `yes` or `no`; `held` and the line of the first
+/// held refusal, or `-`; `choices` and the lines in which a channel was chosen, or none was free, but the book without the
+/// attempt would have given another one or one, or `-`; and `same` if the book after all events is the book after the others
+/// alone, and the others got the same replies, else `differs: ` and the first difference. The answer is `Done` or `Differs`
+/// accordingly.
 ///
-/// One line is printed, and the answer is `Refused`, where the site is refused as by `lab_run`; where a line can't be
-/// read (`line` and the number of the first such, of an event that isn't written as a trace has it, or of a trace of two
-/// controllers); where a reply isn't the one that the book gives (`line` and the number of the first such); where no
-/// undone attempt opens in the line (`no attempt`). `scratch` serves while the site is read, `alloc` for all else. Once
-/// memory was refused (`NoMemory`), or `out` can't be written to (`Write`), nothing more is printed.
+/// One line is printed, and the answer is `Refused`, if the site is refused as by `lab_run`; if a line can't be read (`line`
+/// and the number of the first such line, which is an event in another form than a trace has, or a line of a trace of two
+/// controllers); if a reply isn't the book's (`line` and the number of the first such line); or if no undone attempt opens
+/// in the line (`no attempt`). `scratch` serves while the site is read, `alloc` for all else. Once memory was refused
+/// (`NoMemory`), or `out` can't be written to (`Write`), nothing more is printed.
 pub fn rewind_run<A: Allocator + Copy, W: Write>(
     alloc: A,
     scratch: Global,

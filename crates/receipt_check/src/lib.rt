@@ -11,8 +11,8 @@ use radio_desk::seat::Receipt;
 use std::alloc::{AllocError, Allocator};
 use thiserror::Error;
 
-/// Why a desk and receipts are none that an office can close with. Where several hold, the first in this order is answered.
-/// `Missing` is found without memory: so where `NoMemory` is answered each receipt is the entry at its place, and the
+/// Why an office can't close with this desk and these receipts. If several reasons apply, the answer is the first in this
+/// order. `Missing` is found without memory: so where `NoMemory` is answered each receipt is the entry at its place, and the
 /// history isn't empty.
 #[derive(Clone, Copy, Debug, Error)]
 pub enum CloseFault {
@@ -33,8 +33,9 @@ pub enum CloseFault {
     NoMemory,
 }
 
-/// Looks whether receipts, list by list, are the entries of a desk's history: each is the entry at its place, no two have
-/// one place, and there are as many as entries. `Missing`, `Twice` and `Count` say what isn't so, the first in this order.
+/// Checks that receipts, list by list, are the entries of a desk's history: each is the entry at its place, no two have the
+/// same place, and there are as many as entries. `Missing`, `Twice` and `Count` say which of these fails, the first in this
+/// order.
 pub fn gather<A: Allocator + Copy>(
     alloc: A,
     desk: &Desk<A>,
@@ -77,7 +78,7 @@ pub fn check<A: Allocator + Copy>(
     }
 }
 
-/// Appends receipts. Where memory is refused, which isn't where there are none, nothing was appended.
+/// Appends receipts. If memory is refused, which isn't if there are none, nothing was appended.
 pub fn push_all<A: Allocator>(all: &mut Vec<Receipt, A>, list: &[Receipt]) -> Result<(), AllocError>
     ensures pushed { OnOk result (all.new.items ≡ all.old.items ++ list.now) }
     ensures unchanged { OnErr result (all.new.items ≡ all.old.items) }

@@ -13,7 +13,7 @@ pub struct Choice {
     pub before: usize,
     pub cell: u8,
     pub rate: Rate,
-    /// The channel. `None` where none was free: then it is no event.
+    /// The channel. `None` if none was free: then it is no event.
     pub chosen: Option<ChanId>,
 }
 

@@ -133,7 +133,7 @@ pub fn taken_in<A: Allocator + Copy>(
     Ok(choices.choices)
 }
 
-/// Prints the lines of choices that would come out otherwise, behind a controller's mark: `choices -` where there is none.
+/// Prints the lines of choices that would come out otherwise, behind a controller's mark: `choices -` if there is none.
 pub fn print_choices<W: Write>(out: &mut W, mark: Mark, lines: &[usize]) -> io::Result<()> {
     write!(out, "{mark}choices")?;
     if lines.is_empty() {

@@ -50,8 +50,8 @@ fn text_len(message: &Rr) -> usize
     2 + message.kind().part_len()
 }
 
-/// Appends a message. A list with room for it is not moved: no memory is asked for. Where memory is
-/// refused the list is as it was.
+/// Appends a message. A list with room for it is not moved: no memory is asked for. If memory is refused the list is as it
+/// was.
 pub fn encode_into<A: Allocator + Copy>(
     message: &Rr,
     out: &mut Vec<u8, A>,

@@ -10,8 +10,8 @@ pub fn reading_is_unique<A: Allocator>()
     ensures unique { ReadingIsUnique (codec A) }
 {}
 
-/// The canonical text of a message is a text of it, so reading what was written gives the message, just where its
-/// fields can be said and the text isn't too long.
+/// The canonical text of a message is a text of it, so reading what was written gives the message exactly if its fields can
+/// be said and the text isn't too long.
 pub fn canonical_is_text<A: Allocator>()
     ensures text { CanonicalIsText A }
 {}

@@ -1,5 +1,5 @@
 -- What `==` of reports says.
-use Rattle.std.proofs.Common.{◌≡◌, ℕ, true, ap, rules}
+use Rattle.std.proofs.Common.{◌≡◌, ℕ, Option, true, ap, rules}
 use Rattle.std.specs.Bool.{Decides}
 use Rattle.std.specs.Cmp.{unsigned_Decides}
 use Rattle.std.proofs.lemmas.Bool.Decides.{Decides-and, Decides-like, same_from_decides}
@@ -26,8 +26,14 @@ like_cleared w = search rules
 like_began : (k : AttemptKind) (w : What) → Decides (what_eq.it (what.Began k) w) (what.Began k ≡ w)
 like_began k w = search rules
 
-like_completed : (w : What) → Decides (what_eq.it what.Completed w) (what.Completed ≡ w)
-like_completed w = search rules
+like_activated : (w : What) → Decides (what_eq.it what.Activated w) (what.Activated ≡ w)
+like_activated w = search rules
+
+like_confirmed : (w : What) → Decides (what_eq.it what.Confirmed w) (what.Confirmed ≡ w)
+like_confirmed w = search rules
+
+like_completed : (k : Option AttemptKind) (w : What) → Decides (what_eq.it (what.Completed k) w) (what.Completed k ≡ w)
+like_completed k w = search rules
 
 like_undone : (cause : Cause) (w : What) → Decides (what_eq.it (what.Undone cause) w) (what.Undone cause ≡ w)
 like_undone cause w = search rules
@@ -48,7 +54,9 @@ what_eq-Decides : (x y : What) → Decides (what_eq.it x y) (x ≡ y)
 what_eq-Decides what.Opened y = like_opened y
 what_eq-Decides what.Cleared y = like_cleared y
 what_eq-Decides (what.Began k) y = like_began k y
-what_eq-Decides what.Completed y = like_completed y
+what_eq-Decides what.Activated y = like_activated y
+what_eq-Decides what.Confirmed y = like_confirmed y
+what_eq-Decides (what.Completed k) y = like_completed k y
 what_eq-Decides (what.Undone cause) y = like_undone cause y
 what_eq-Decides what.TurnedAway y = like_turned_away y
 what_eq-Decides what.Fault y = like_fault y
@@ -57,9 +65,10 @@ what_eq-Decides (what.Sent n) y = like_sent n y
 
 report_eq-Decides : (x y : Report) → Decides (report_eq.it x y) (x ≡ y)
 report_eq-Decides x y =
-    Decides-like (report_eq.it x y) (λ p i. record { cell = p.0 i; what = p.1 i })
-    (λ e. (ap (λ z. z.cell) e, ap (λ z. z.what) e))
-    (Decides-and _ _ (option_eq-Decides unsigned_Decides x.cell y.cell) (what_eq-Decides x.what y.what))
+    Decides-like (report_eq.it x y) (λ p i. record { cell = p.0 i; to = p.1.0 i; what = p.1.1 i })
+    (λ e. (ap (λ z. z.cell) e, (ap (λ z. z.to) e, ap (λ z. z.what) e)))
+    (Decides-and _ _ (option_eq-Decides unsigned_Decides x.cell y.cell)
+    (Decides-and _ _ (option_eq-Decides unsigned_Decides x.to y.to) (what_eq-Decides x.what y.what)))
 
 pub same_what : (x : What) (y : Report) → what_eq.it x y.what ≡ is_of x y
 same_what x y = same_from_decides (what_eq.it x y.what) (is_of x y) (what_eq-Decides x y.what) (is_same-Decides what_row.coded x y.what)

@@ -1,5 +1,5 @@
 -- How often each report came. Ours, of no standard.
-use Rattle.std.specs.Prelude.{◌≡◌, ◌+◌, ◌<◌, ◌^◌, ℕ, Bool, List, Some, All, if◌then◌else◌, count_by, sum_by}
+use Rattle.std.specs.Prelude.{◌≡◌, ◌+◌, ◌<◌, ◌^◌, ◌==◌, ◌&&◌, ℕ, Bool, false, List, Option, Some, None, All, if◌then◌else◌, count_by, sum_by}
 use Rattle.radio_tables.specs.Same.{is_same}
 use Rattle.run_counts.specs.declared.report.What.{What}
 use Rattle.run_counts.specs.declared.report.Report.{Report}
@@ -17,6 +17,15 @@ is_report wanted report = is_same report_row.coded wanted report
 -- a report is of this, in whatever cell
 abbrev pub is_of : What → Report → Bool
 is_of wanted report = is_same what_row.coded wanted report.what
+
+-- this cell is the one that is told
+abbrev pub is_cell : ℕ → Option ℕ → Bool
+is_cell cell (Some told) = told == cell
+is_cell cell None = false
+
+-- a report is of this, in this cell
+abbrev pub is_in : ℕ → What → Report → Bool
+is_in cell wanted report = is_cell cell report.cell && is_of wanted report
 
 -- of how many reports that pass a test rows tell
 abbrev pub counted_by : (Report → Bool) → List Row → ℕ

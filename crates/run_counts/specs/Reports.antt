@@ -1,5 +1,5 @@
 -- What the lines of a trace are counted as. Ours, of no standard.
-use Rattle.std.specs.Prelude.{ℕ, Bool, true, false, List, [], ◌∷◌, ◌++◌, Option, Some, None}
+use Rattle.std.specs.Prelude.{ℕ, Bool, true, false, List, [], ◌∷◌, ◌++◌, Option, Some, None, if◌then◌else◌}
 use Rattle.channel_fsm.specs.declared.ChanId.{ChanId}
 use Rattle.radio_book.specs.declared.event.Event.{Event}
 use Rattle.radio_book.specs.declared.event.Event.TheVariants.{Open, Clear, Look, Take, Reserve, Activate, Command, Complete, Undo, Confirm, Refuse, Detect, Released, Owner, Require, Order, Left}
@@ -10,9 +10,11 @@ use Rattle.radio_book.specs.declared.event.Why.{Why}
 use Rattle.radio_book.specs.declared.event.Why.TheVariants as why
 use Rattle.radio_tables.specs.declared.kinds.Attempt.{Attempt}
 use Rattle.radio_tables.specs.declared.kinds.CallRecord.{CallRecord}
+use Rattle.radio_tables.specs.declared.kinds.AttemptKind.{AttemptKind}
 use Rattle.radio_tables.specs.declared.kinds.AttemptKind.TheVariants.{Internal, Incoming, Outgoing}
 use Rattle.run_counts.specs.declared.told.Cause.{Cause}
 use Rattle.run_counts.specs.declared.told.Cause.TheVariants.{Timer, Untold}
+use Rattle.run_counts.specs.declared.told.Way.{Way}
 use Rattle.run_counts.specs.declared.told.Told.{Told}
 use Rattle.run_counts.specs.declared.told.Told.TheVariants as told
 use Rattle.run_counts.specs.declared.report.What.{What}
@@ -39,26 +41,57 @@ cell_or None otherwise = otherwise
 abbrev pub home_of : CallRecord → Option ℕ
 home_of kept = cell_or kept.serving (target_cell kept.attempt)
 
+-- which way an attempt leads, where one is open
+abbrev pub way_in : Option Attempt → Option Way
+way_in (Some attempt) = Some (record { kind = attempt.kind; target = cell_of attempt.target })
+way_in None = None
+
 -- what is told where the book was asked an event, and replied this
 abbrev pub asked : Event → Reply → Told
-asked event reply.Done = told.Asked event true None
-asked event (reply.Owned call) = told.Asked event true None
-asked event (reply.Record kept state) = told.Asked event true (home_of kept)
-asked event (reply.Refused refusal) = told.Asked event false None
+asked event reply.Done = told.Asked event true None None
+asked event (reply.Owned call) = told.Asked event true None None
+asked event (reply.Record kept state) = told.Asked event true (home_of kept) (way_in kept.attempt)
+asked event (reply.Refused refusal) = told.Asked event false None None
 
 -- before the first input
 abbrev pub first_standing : Standing
-first_standing = record { cell = None; cause = Untold; home = None }
+first_standing = record { cell = None; cause = Untold; home = None; way = None }
 
 -- the home cell that is known once a reply told one or not
 abbrev pub known_home : Standing → Option ℕ → Option ℕ
 known_home standing (Some home) = Some home
 known_home standing None = standing.home
 
+-- which way the attempt leads that opens by an accepted event; another event leaves what is known
+abbrev pub opened_way : Option Way → Event → Option Way
+opened_way known (Take call from.Internal chan) = Some (record { kind = Internal; target = Some chan.cell })
+opened_way known (Take call from.Incoming chan) = Some (record { kind = Incoming; target = Some chan.cell })
+opened_way known (Open call chan) = known
+opened_way known (Clear call) = known
+opened_way known (Look call) = known
+opened_way known (Reserve call number) = known
+opened_way known (Activate call) = known
+opened_way known (Command call) = known
+opened_way known (Complete call) = known
+opened_way known (Undo call why) = known
+opened_way known (Confirm chan) = known
+opened_way known (Refuse chan) = known
+opened_way known (Detect chan) = known
+opened_way known (Released chan) = known
+opened_way known (Owner chan) = known
+opened_way known (Require call) = known
+opened_way known (Order call) = known
+opened_way known (Left call) = known
+
+-- which way is known once an event was accepted or not, and the reply told one or not
+abbrev pub way_behind : Option Way → Event → Bool → Option Way → Option Way
+way_behind known event is_accepted (Some way) = Some way
+way_behind known event is_accepted None = if is_accepted then opened_way known event else known
+
 -- what the lines told of the input that is handled, behind one that tells this
 abbrev pub standing_behind : Standing → Told → Standing
-standing_behind standing (told.Input cell cause name) = record { cell = cell; cause = cause; home = None }
-standing_behind standing (told.Asked event is_accepted home) = record standing { home = known_home standing home }
+standing_behind standing (told.Input cell cause name) = record { cell = cell; cause = cause; home = None; way = None }
+standing_behind standing (told.Asked event is_accepted home way) = record standing { home = known_home standing home; way = way_behind standing.way event is_accepted way }
 standing_behind standing (told.NoneFree cell) = standing
 standing_behind standing (told.Sent cell name) = standing
 standing_behind standing told.Fault = standing
@@ -69,24 +102,38 @@ abbrev pub cause_of : Standing → Why → Cause
 cause_of standing why.Asked = standing.cause
 cause_of standing (why.Expired timer) = Timer
 
-abbrev pub report_at : Option ℕ → What → Option Report
-report_at cell what = Some (record { cell = cell; what = what })
+-- a report that leads nowhere, and one of an attempt
+abbrev pub report_at : Option ℕ → What → Report
+report_at cell what = record { cell = cell; to = None; what = what }
 
--- What an event counts as that was accepted. What is by a call is counted in the call's home cell.
+abbrev pub report_to : Option ℕ → Option ℕ → What → Report
+report_to cell to what = record { cell = cell; to = to; what = what }
+
+-- the cell that an attempt leads to, and of which kind it is, where that is known
+abbrev pub target_of : Option Way → Option ℕ
+target_of (Some way) = way.target
+target_of None = None
+
+abbrev pub kind_of : Option Way → Option AttemptKind
+kind_of (Some way) = Some way.kind
+kind_of None = None
+
+-- What an event counts as that was accepted. What is by a call is counted in the call's home cell, what is by a station in the
+-- cell of its channel, and what asks for the activation of an attempt's channel in the cell that the attempt leads to.
 abbrev pub accepted : Standing → Event → Option ℕ → Option Report
-accepted standing (Open call chan) home = report_at (Some chan.cell) what.Opened
-accepted standing (Clear call) home = report_at home what.Cleared
-accepted standing (Take call from.Internal chan) home = report_at home (what.Began Internal)
-accepted standing (Take call from.Incoming chan) home = report_at (Some chan.cell) (what.Began Incoming)
-accepted standing (Require call) home = report_at home (what.Began Outgoing)
-accepted standing (Complete call) home = report_at home what.Completed
-accepted standing (Left call) home = report_at home what.Completed
-accepted standing (Undo call why) home = report_at home (what.Undone (cause_of standing why))
+accepted standing (Open call chan) home = Some (report_at (Some chan.cell) what.Opened)
+accepted standing (Clear call) home = Some (report_at home what.Cleared)
+accepted standing (Take call from.Internal chan) home = Some (report_to home (Some chan.cell) (what.Began Internal))
+accepted standing (Take call from.Incoming chan) home = Some (report_to (Some chan.cell) (Some chan.cell) (what.Began Incoming))
+accepted standing (Require call) home = Some (report_at home (what.Began Outgoing))
+accepted standing (Activate call) home = Some (report_at (target_of standing.way) what.Activated)
+accepted standing (Confirm chan) home = Some (report_at (Some chan.cell) what.Confirmed)
+accepted standing (Complete call) home = Some (report_to home (target_of standing.way) (what.Completed (kind_of standing.way)))
+accepted standing (Left call) home = Some (report_at home (what.Completed (Some Outgoing)))
+accepted standing (Undo call why) home = Some (report_at home (what.Undone (cause_of standing why)))
 accepted standing (Look call) home = None
 accepted standing (Reserve call number) home = None
-accepted standing (Activate call) home = None
 accepted standing (Command call) home = None
-accepted standing (Confirm chan) home = None
 accepted standing (Refuse chan) home = None
 accepted standing (Detect chan) home = None
 accepted standing (Released chan) home = None
@@ -100,16 +147,16 @@ event_report standing event false home = None
 
 -- what a message counts as that an input is
 abbrev pub input_report : Option ℕ → Option ℕ → Option Report
-input_report cell (Some name) = report_at cell (what.Received name)
+input_report cell (Some name) = Some (report_at cell (what.Received name))
 input_report cell None = None
 
 -- what a line counts as that tells this
 abbrev pub report_of : Standing → Told → Option Report
 report_of standing (told.Input cell cause name) = input_report cell name
-report_of standing (told.Asked event is_accepted home) = event_report standing event is_accepted home
-report_of standing (told.NoneFree cell) = report_at (Some cell) what.TurnedAway
-report_of standing (told.Sent cell name) = report_at cell (what.Sent name)
-report_of standing told.Fault = report_at standing.cell what.Fault
+report_of standing (told.Asked event is_accepted home way) = event_report standing event is_accepted home
+report_of standing (told.NoneFree cell) = Some (report_at (Some cell) what.TurnedAway)
+report_of standing (told.Sent cell name) = Some (report_at cell (what.Sent name))
+report_of standing told.Fault = Some (report_at standing.cell what.Fault)
 report_of standing told.Nothing = None
 
 -- a report, if there is one

@@ -27,6 +27,23 @@ fn is_of(what: What, report: Report) -> bool
     what == report.what
 }
 
+/// Whether this cell is the one that is told.
+fn is_cell(cell: u8, told: Option<u8>) -> bool
+    ensures { result ≡ said.is_cell cell told }
+{
+    match told {
+        Some(told) => told == cell,
+        None => false,
+    }
+}
+
+/// Whether a report is of this, in this cell.
+fn is_in(cell: u8, what: What, report: Report) -> bool
+    ensures { result ≡ said.is_in cell what report }
+{
+    is_cell(cell, report.cell) && is_of(what, report)
+}
+
 /// The place of a report's row.
 fn place_of(rows: &[Row], report: Report) -> Option<usize>
     ensures { result ≡ position (λ row. said.is_report report row.report) rows.now }
@@ -72,6 +89,20 @@ pub(crate) fn count_of(rows: &[Row], report: Report) -> u64
     let mut count: u64 = 0;
     for row in rows {
         if is_same(report, row.report) {
+            count = count.saturating_add(row.count);
+        }
+    }
+    count
+}
+
+/// How often this came in a cell.
+pub(crate) fn count_in(rows: &[Row], cell: u8, what: What) -> u64
+    ensures { said.counted_by (said.is_in cell what) rows.now < 2 ^ 64 →
+        result ≡ said.counted_by (said.is_in cell what) rows.now }
+{
+    let mut count: u64 = 0;
+    for row in rows {
+        if is_in(cell, what, row.report) {
             count = count.saturating_add(row.count);
         }
     }

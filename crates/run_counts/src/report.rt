@@ -2,20 +2,24 @@
 ghost use Rattle.std.specs.Prelude.{◌≡◌};
 ghost use Rattle.run_counts.specs.Reports as said;
 
-use crate::told::{Cause, Told};
+use crate::told::{Cause, Told, Way};
 use radio_book::event::{AttemptKind, Event, Kind, Why};
 
 /// What is counted.
 #[derive(Clone, Copy, PartialEq, Eq)]
 pub enum What {
-    /// A call was opened.
+    /// A call was opened, which asks for the activation of its channel.
     Opened,
     /// A call was cleared.
     Cleared,
+    /// The activation of an attempt's channel was asked for.
+    Activated,
+    /// A channel was activated.
+    Confirmed,
     /// An attempt at handover opened.
     Began(AttemptKind),
-    /// The call of an attempt has moved, here or to another controller.
-    Completed,
+    /// The call of an attempt has moved, here or to another controller; of which kind that was, where the lines tell.
+    Completed(Option<AttemptKind>),
     /// An attempt was taken back.
     Undone(Cause),
     /// No channel was free.
@@ -28,10 +32,12 @@ pub enum What {
     Sent(usize),
 }
 
-/// Something that is counted, and the cell that it is about, where it is told of one.
+/// Something that is counted, the cell that it is about, where it is told of one, and the cell of this controller that an
+/// attempt leads to which opens or is completed.
 #[derive(Clone, Copy, PartialEq, Eq)]
 pub struct Report {
     pub cell: Option<u8>,
+    pub to: Option<u8>,
     pub what: What,
 }
 
@@ -44,6 +50,8 @@ pub(crate) struct Standing {
     pub(crate) cause: Cause,
     /// The home cell of the record that the book replied last.
     pub(crate) home: Option<u8>,
+    /// Which way the attempt leads that opened last, or that this record has.
+    pub(crate) way: Option<Way>,
 }
 
 impl Standing {
@@ -55,6 +63,7 @@ impl Standing {
             cell: None,
             cause: Cause::Untold,
             home: None,
+            way: None,
         }
     }
 }
@@ -69,6 +78,49 @@ fn known_home(standing: Standing, home: Option<u8>) -> Option<u8>
     }
 }
 
+/// Which way the attempt leads that opens by an accepted event; another event leaves what is known.
+fn opened_way(known: Option<Way>, event: Event) -> Option<Way>
+    ensures { result ≡ said.opened_way known event }
+{
+    match event {
+        Event::Take(_, Kind::Internal, chan) => Some(Way {
+            kind: AttemptKind::Internal,
+            target: Some(chan.cell),
+        }),
+        Event::Take(_, Kind::Incoming, chan) => Some(Way {
+            kind: AttemptKind::Incoming,
+            target: Some(chan.cell),
+        }),
+        Event::Open(..)
+        | Event::Clear(_)
+        | Event::Look(_)
+        | Event::Reserve(..)
+        | Event::Activate(_)
+        | Event::Command(_)
+        | Event::Complete(_)
+        | Event::Undo(..)
+        | Event::Confirm(_)
+        | Event::Refuse(_)
+        | Event::Detect(_)
+        | Event::Released(_)
+        | Event::Owner(_)
+        | Event::Require(_)
+        | Event::Order(_)
+        | Event::Left(_) => known,
+    }
+}
+
+/// Which way is known once an event was accepted or not, and the reply told one or not.
+fn way_behind(known: Option<Way>, event: Event, is_accepted: bool, told: Option<Way>) -> Option<Way>
+    ensures { result ≡ said.way_behind known event is_accepted told }
+{
+    match told {
+        Some(way) => Some(way),
+        None if is_accepted => opened_way(known, event),
+        None => known,
+    }
+}
+
 /// What the lines told of the input that is handled, behind one that tells this.
 pub(crate) fn standing_behind(standing: Standing, told: Told) -> Standing
     ensures { result ≡ said.standing_behind standing told }
@@ -78,9 +130,16 @@ pub(crate) fn standing_behind(standing: Standing, told: Told) -> Standing
             cell,
             cause,
             home: None,
+            way: None,
         },
-        Told::Asked { home, .. } => Standing {
+        Told::Asked {
+            event,
+            is_accepted,
+            home,
+            way,
+        } => Standing {
             home: known_home(standing, home),
+            way: way_behind(standing.way, event, is_accepted, way),
             ..standing
         },
         Told::NoneFree { .. } | Told::Sent { .. } | Told::Fault | Told::Nothing => standing,
@@ -97,44 +156,67 @@ fn cause_of(standing: Standing, why: Why) -> Cause
     }
 }
 
+/// A report of this, which leads nowhere.
+fn report_at(cell: Option<u8>, what: What) -> Report
+    ensures { result ≡ said.report_at cell what }
+{
+    Report {
+        cell,
+        to: None,
+        what,
+    }
+}
+
+/// The cell that an attempt leads to, where that is known.
+fn target_of(way: Option<Way>) -> Option<u8>
+    ensures { result ≡ said.target_of way }
+{
+    match way {
+        Some(way) => way.target,
+        None => None,
+    }
+}
+
+/// Of which kind an attempt is, where that is known.
+fn kind_of(way: Option<Way>) -> Option<AttemptKind>
+    ensures { result ≡ said.kind_of way }
+{
+    match way {
+        Some(way) => Some(way.kind),
+        None => None,
+    }
+}
+
 /// What an event counts as that was accepted.
 fn accepted(standing: Standing, event: Event, home: Option<u8>) -> Option<Report>
     ensures { result ≡ said.accepted standing event home }
 {
     match event {
-        Event::Open(_, chan) => Some(Report {
-            cell: Some(chan.cell),
-            what: What::Opened,
-        }),
-        Event::Clear(_) => Some(Report {
+        Event::Open(_, chan) => Some(report_at(Some(chan.cell), What::Opened)),
+        Event::Clear(_) => Some(report_at(home, What::Cleared)),
+        Event::Take(_, Kind::Internal, chan) => Some(Report {
             cell: home,
-            what: What::Cleared,
-        }),
-        Event::Take(_, Kind::Internal, _) => Some(Report {
-            cell: home,
+            to: Some(chan.cell),
             what: What::Began(AttemptKind::Internal),
         }),
         Event::Take(_, Kind::Incoming, chan) => Some(Report {
             cell: Some(chan.cell),
+            to: Some(chan.cell),
             what: What::Began(AttemptKind::Incoming),
         }),
-        Event::Require(_) => Some(Report {
+        Event::Require(_) => Some(report_at(home, What::Began(AttemptKind::Outgoing))),
+        Event::Activate(_) => Some(report_at(target_of(standing.way), What::Activated)),
+        Event::Confirm(chan) => Some(report_at(Some(chan.cell), What::Confirmed)),
+        Event::Complete(_) => Some(Report {
             cell: home,
-            what: What::Began(AttemptKind::Outgoing),
+            to: target_of(standing.way),
+            what: What::Completed(kind_of(standing.way)),
         }),
-        Event::Complete(_) | Event::Left(_) => Some(Report {
-            cell: home,
-            what: What::Completed,
-        }),
-        Event::Undo(_, why) => Some(Report {
-            cell: home,
-            what: What::Undone(cause_of(standing, why)),
-        }),
+        Event::Left(_) => Some(report_at(home, What::Completed(Some(AttemptKind::Outgoing)))),
+        Event::Undo(_, why) => Some(report_at(home, What::Undone(cause_of(standing, why)))),
         Event::Look(_)
         | Event::Reserve(..)
-        | Event::Activate(_)
         | Event::Command(_)
-        | Event::Confirm(_)
         | Event::Refuse(_)
         | Event::Detect(_)
         | Event::Released(_)
@@ -164,10 +246,7 @@ fn input_report(cell: Option<u8>, name: Option<usize>) -> Option<Report>
     ensures { result ≡ said.input_report cell name }
 {
     match name {
-        Some(name) => Some(Report {
-            cell,
-            what: What::Received(name),
-        }),
+        Some(name) => Some(report_at(cell, What::Received(name))),
         None => None,
     }
 }
@@ -182,19 +261,11 @@ pub(crate) fn report_of(standing: Standing, told: Told) -> Option<Report>
             event,
             is_accepted,
             home,
+            way: _,
         } => event_report(standing, event, is_accepted, home),
-        Told::NoneFree { cell } => Some(Report {
-            cell: Some(cell),
-            what: What::TurnedAway,
-        }),
-        Told::Sent { cell, name } => Some(Report {
-            cell,
-            what: What::Sent(name),
-        }),
-        Told::Fault => Some(Report {
-            cell: standing.cell,
-            what: What::Fault,
-        }),
+        Told::NoneFree { cell } => Some(report_at(Some(cell), What::TurnedAway)),
+        Told::Sent { cell, name } => Some(report_at(cell, What::Sent(name))),
+        Told::Fault => Some(report_at(standing.cell, What::Fault)),
         Told::Nothing => None,
     }
 }

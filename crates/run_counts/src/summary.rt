@@ -2,9 +2,9 @@
 ghost use Rattle.std.specs.Prelude.{◌≡◌, ◌+◌, ◌<◌, ◌^◌, [], ◌∷◌, ◌++◌, List, length, count_by, OnOk, OnErr};
 ghost use Rattle.run_counts.specs.declared.told.Told.{Told};
 ghost use Rattle.run_counts.specs.Reports.{reports_of};
-ghost use Rattle.run_counts.specs.Counts.{IsSummaryOf, IsFirstOfItsReport, is_report, is_of};
+ghost use Rattle.run_counts.specs.Counts.{IsSummaryOf, IsFirstOfItsReport, is_report, is_in, is_of};
 
-use crate::counts::{Row, count_in_all, count_of, count_report};
+use crate::counts::{Row, count_in, count_in_all, count_of, count_report};
 use crate::report::{Report, Standing, What, report_of, standing_behind};
 use crate::told::Told;
 use std::alloc::{AllocError, Allocator, Global};
@@ -53,6 +53,14 @@ impl<A: Allocator> Summary<A> {
         count_of(&self.rows, report)
     }
 
+    /// How often this came in a cell.
+    pub fn count_in(&self, cell: u8, what: What) -> u64
+        ensures count { (lines : List Told) → length lines < 2 ^ 64 → IsSummaryOf lines self.now →
+            result ≡ count_by (is_in cell what) (reports_of lines) }
+    {
+        count_in(&self.rows, cell, what)
+    }
+
     /// How often this came, in whatever cell.
     pub fn count_in_all(&self, what: What) -> u64
         ensures count { (lines : List Told) → length lines < 2 ^ 64 → IsSummaryOf lines self.now →
@@ -64,6 +72,11 @@ impl<A: Allocator> Summary<A> {
     /// Whether nothing came that is counted.
     pub fn is_empty(&self) -> bool {
         self.rows.is_empty()
+    }
+
+    /// Whether an attempt came that is told to lead to this cell.
+    pub fn leads_to(&self, cell: u8) -> bool {
+        self.rows.iter().any(|row| row.report.to == Some(cell))
     }
 
     /// Whether anything came that is told of this cell.

@@ -3,7 +3,7 @@ ghost use Rattle.std.specs.Prelude.{◌≡◌};
 ghost use Rattle.run_counts.specs.Reports as said;
 
 use channel_fsm::ChanId;
-use radio_book::event::{CallRecord, Event, Reply};
+use radio_book::event::{AttemptKind, CallRecord, Event, Reply};
 
 /// Why an attempt at handover is taken back.
 #[derive(Clone, Copy, PartialEq, Eq)]
@@ -24,23 +24,32 @@ pub enum Cause {
     Untold,
 }
 
+/// Which way an attempt at handover leads.
+#[derive(Clone, Copy, PartialEq, Eq)]
+pub struct Way {
+    pub kind: AttemptKind,
+    /// The cell of this controller that it is to lead to. `None` where it leads to another controller.
+    pub target: Option<u8>,
+}
+
 /// What a line of a trace tells, as far as it is counted. A cell is a number from 0 to 255. A name is that of a message: its
 /// place among the names that came so far.
 #[derive(Clone, Copy)]
 pub enum Told {
     /// An input is handled: the cell of a message on Abis, why an attempt is taken back that this input undoes, and the name
-    /// of the message, where there is one.
+    /// of the message, if there is one.
     Input {
         cell: Option<u8>,
         cause: Cause,
         name: Option<usize>,
     },
-    /// The book was asked: the event, whether it was accepted, and the home cell of the record that the book replied, where it
-    /// replied one: that of the serving channel, or else of the target.
+    /// The book was asked: the event, and whether it was accepted; of the record that the book replied, where it replied one,
+    /// the home cell (that of the serving channel, or else of the target), and which way the attempt leads that is open.
     Asked {
         event: Event,
         is_accepted: bool,
         home: Option<u8>,
+        way: Option<Way>,
     },
     /// No channel of this cell was free.
     NoneFree {
@@ -57,7 +66,7 @@ pub enum Told {
     Nothing,
 }
 
-/// The cell of a channel, where there is one.
+/// The cell of a channel, if there is one.
 fn cell_of(chan: Option<ChanId>) -> Option<u8>
     ensures { result ≡ said.cell_of chan }
 {
@@ -87,6 +96,19 @@ fn home_of(kept: CallRecord) -> Option<u8>
     }
 }
 
+/// Which way the attempt of a record leads, where one is open.
+fn way_of(kept: CallRecord) -> Option<Way>
+    ensures { result ≡ said.way_in kept.attempt }
+{
+    match kept.attempt {
+        Some(attempt) => Some(Way {
+            kind: attempt.kind,
+            target: cell_of(attempt.target),
+        }),
+        None => None,
+    }
+}
+
 /// What is told where the book was asked an event, and replied this.
 pub fn asked(event: Event, reply: Reply) -> Told
     ensures told { result ≡ said.asked event reply }
@@ -96,16 +118,19 @@ pub fn asked(event: Event, reply: Reply) -> Told
             event,
             is_accepted: true,
             home: None,
+            way: None,
         },
         Reply::Record(kept, _) => Told::Asked {
             event,
             is_accepted: true,
             home: home_of(kept),
+            way: way_of(kept),
         },
         Reply::Refused(_) => Told::Asked {
             event,
             is_accepted: false,
             home: None,
+            way: None,
         },
     }
 }

@@ -1,6 +1,6 @@
-//! Who hears what comes of the lines of a script, or of lines as they come: turn by turn (`Turn`), with the book as it is then.
-//! One listener prints the trace (`Printing`), one prints it line by line (`LivePrinting`). It needs no controller: views of runs
-//! stand on it, beside the runs.
+//! Listeners, which are told what comes of the lines of a script, or of lines as they come: turn by turn (`Turn`), with the
+//! book as it is then. One listener prints the trace (`Printing`), one prints it line by line (`LivePrinting`). This crate
+//! needs no controller. Views of runs depend on it, and not on the crate that runs scripts.
 #![tactic(auto)]
 
 mod fault;

@@ -1,4 +1,4 @@
-//! Who hears what comes of a script, as it comes; and one that prints it.
+//! Listeners to a run, and one that prints the trace.
 use crate::fault::LabFault;
 use crate::turn::{Answer, Turn};
 use crate::unmet::Unmet;
@@ -12,37 +12,37 @@ use trace_text::trace::{
     Mark, print_end, print_fault, print_input, print_limit, print_sent, print_steps,
 };
 
-/// Who hears what comes of a script: what comes of each input, in their order, and what the books hold at the end; or that
-/// nothing is run, and why.
+/// A listener to a run. It is told what comes of each input, in order, and what the books hold at the end; or that nothing
+/// is run, and why.
 pub trait Listener<A: Allocator + Copy> {
-    /// Something that a line gives begins: what is heard up to the next comes of it.
+    /// A line gives something. What is told up to the next call of this comes of it.
     fn hear_item(&mut self) -> Result<(), LabFault> {
         Ok(())
     }
 
-    /// Why nothing comes of what a line asks its controller's book. Who tells nobody needn't hear it.
+    /// Why a line that asks its controller's book has no effect. A listener may ignore it.
     fn hear_unmet(&mut self, _unmet: Unmet) -> Result<(), LabFault> {
         Ok(())
     }
 
-    /// What a line asks of the mobile of a call, once it is known on which channel that is. Who tells nobody needn't hear it.
+    /// What a line asks of the mobile of a call, once its channel is known. A listener may ignore it.
     fn hear_set(&mut self, _setting: Setting) -> Result<(), LabFault> {
         Ok(())
     }
 
-    /// What came of an input; the controller's mark, and its book as it is now.
+    /// What came of an input, with the controller's mark, and its book as it is now.
     fn hear_turn(&mut self, mark: Mark, turn: &Turn<A>, book: &Book<A>) -> Result<(), LabFault>;
 
-    /// Memory was refused, so that it isn't told what came of an input; the controller with this mark still owes these
-    /// messages, in their order. Who sends nothing anywhere needn't hear it.
+    /// Memory was refused, so what came of an input isn't told. The controller with this mark still owes these messages, in
+    /// this order. A listener that sends nothing may ignore it.
     fn hear_owed(&mut self, _mark: Mark, _messages: &[Outbound<A>]) -> Result<(), LabFault> {
         Ok(())
     }
 
-    /// So many answers of simulators were handled for one line of the script that the rest are dropped.
+    /// Too many answers of simulators came to one line of the script. The rest are dropped.
     fn hear_limit(&mut self) -> Result<(), LabFault>;
 
-    /// The run came to its end: the book of the controller with this mark.
+    /// The run has ended, with this book of the controller with this mark.
     fn hear_end(&mut self, mark: Mark, book: &Book<A>) -> Result<(), LabFault>;
 
     /// A text describes no site.
@@ -59,7 +59,7 @@ pub struct Printing<'a, W: Write> {
 }
 
 impl<'a, W: Write> Printing<'a, W> {
-    /// One that prints it to `out`.
+    /// A listener that prints the trace to `out`.
     pub fn new(out: &'a mut W) -> Printing<'a, W> {
         Printing { out }
     }
@@ -75,7 +75,7 @@ fn print_turn<A: Allocator, W: Write>(out: &mut W, mark: Mark, turn: &Turn<A>) -
     }
 }
 
-/// Prints why a text describes no site: the number of the fault and what it is of. Of refused memory it prints nothing.
+/// Prints why a text describes no site: the fault's number and argument. If memory was refused, it prints nothing.
 pub fn print_no_site<W: Write>(out: &mut W, fault: SiteFault) -> io::Result<()> {
     match fault {
         SiteFault::Toml => writeln!(out, "site 1"),

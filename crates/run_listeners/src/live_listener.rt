@@ -1,4 +1,4 @@
-//! Who hears what comes of lines as they come.
+//! Listeners to lines as they come.
 use crate::fault::LabFault;
 use crate::listener::{Listener, Printing};
 use crate::turn::Turn;
@@ -10,47 +10,48 @@ use std::alloc::Allocator;
 use std::io::{self, Write};
 use trace_text::trace::{Mark, print_sent};
 
-/// Who hears what comes of lines as they come, and hands it on line by line.
+/// A listener to lines as they come, which passes on what it hears line by line.
 pub trait LiveListener<A: Allocator + Copy>: Listener<A> {
-    /// No more comes of this line: what was heard so far is handed on. What is to be told a person goes to `errors`.
+    /// Nothing more comes of this line: what was heard so far is passed on. Messages for a person go to `errors`.
     fn hear_line_end<E: Write>(&mut self, errors: &mut E) -> Result<(), LabFault>;
 
-    /// Why nothing came of the line, where it asked its controller's book in vain. It is told once.
+    /// Why the line had no effect, if it asked its controller's book in vain. It is told once.
     fn take_unmet(&mut self) -> Option<Unmet> {
         None
     }
 
-    /// No other line is there for now: what was held back leaves. What is to be told a person goes to `errors`.
+    /// No other line is there for now: what was held back is written. Messages for a person go to `errors`.
     fn hear_wait<E: Write>(&mut self, _errors: &mut E) -> Result<(), LabFault> {
         Ok(())
     }
 
-    /// Whether the desk should begin anew, though its history isn't long.
+    /// Whether the desk should begin anew even if its history isn't long.
     fn wants_anew(&self) -> bool {
         false
     }
 
-    /// The desk began anew with this book. What is to be told a person goes to `errors`.
+    /// The desk has begun anew with this book. Messages for a person go to `errors`.
     fn hear_anew<E: Write>(&mut self, _book: &Book<A>, _errors: &mut E) -> Result<(), LabFault> {
         Ok(())
     }
 
-    /// A line asks what came so far, counted. The answer is whether it was told: who counts nothing doesn't.
+    /// A line asks for the counts so far. The answer is whether they were told; a listener that counts nothing doesn't tell
+    /// them.
     fn hear_summary(&mut self) -> Result<bool, LabFault> {
         Ok(false)
     }
 }
 
-/// A listener that prints the trace, and what is owed where memory is refused; behind each line it is flushed.
+/// A listener that prints the trace, and what is owed if memory is refused. It flushes after each line.
 #[derive(Drop)]
 pub struct LivePrinting<'a, W: Write> {
     out: &'a mut W,
-    /// Why nothing came of the line, where it asked in vain.
+    /// Why the line had no effect, if it asked in vain.
     unmet: Option<Unmet>,
 }
 
 impl<'a, W: Write> LivePrinting<'a, W> {
-    /// One that prints it to `out`.
+    /// A listener that prints the trace to `out`.
     pub fn new(out: &'a mut W) -> LivePrinting<'a, W> {
         LivePrinting { out, unmet: None }
     }

@@ -18,8 +18,8 @@ pub enum Source {
 pub enum Answer<A: Allocator = Global> {
     /// It sent these messages.
     Sent(Vec<Outbound<A>, A>),
-    /// The octets of the input are no message, or those of the radio resource message inside are none. Nothing was
-    /// asked, and nothing is sent.
+    /// The input's octets are no message, or those of the radio resource message inside are none. Nothing was asked, and
+    /// nothing is sent.
     Undecoded(Bad),
 }
 
@@ -32,7 +32,7 @@ pub struct Turn<A: Allocator = Global> {
     pub source: Source,
     /// What the controller was given.
     pub input: Inbound<A>,
-    /// What it asked of its book, each event with its reply, and each cell without a free channel, in their order.
+    /// What it asked of its book: each event with its reply, and each cell without a free channel, in order.
     pub steps: Vec<Step, A>,
     /// What it sent, or why its octets can't be read.
     pub answer: Answer<A>,

@@ -1,20 +1,20 @@
-//! Why nothing comes of a line.
+//! Why a line has no effect.
 use std::fmt;
 
-/// Why nothing comes of a line that asks its controller's book.
+/// Why a line that asks its controller's book has no effect.
 #[derive(Clone, Copy, Debug, PartialEq, Eq)]
 pub enum Unmet {
     /// There is no such call.
     NoCall(u16),
     /// The call is on no channel: it comes from another controller, and hasn't come yet.
     NoChannel(u16),
-    /// This cell isn't one that mobiles in that one are told to listen to.
+    /// `neighbour` isn't in the neighbour list of `cell`.
     NoNeighbour { cell: u8, neighbour: u8 },
-    /// Of no channel that the call had last the release is awaited.
+    /// The release of no channel that the call had is awaited.
     NoRelease(u16),
-    /// What the report says can't be reported.
+    /// A report can't say this.
     NoReport,
-    /// No call is on a channel in whose cell mobiles are told to listen to these neighbours.
+    /// No call is in a cell that has these neighbours in its list.
     Nobody,
 }
 
@@ -29,10 +29,8 @@ impl fmt::Display for Unmet {
                     "cell {neighbour} isn't in the neighbour list of cell {cell}"
                 )
             }
-            Unmet::NoRelease(call) => {
-                write!(f, "the release of no channel of call {call} is awaited")
-            }
-            Unmet::NoReport => write!(f, "this can't be reported"),
+            Unmet::NoRelease(call) => { write!(f, "no channel of call {call} awaits its release") }
+            Unmet::NoReport => write!(f, "a report can't say this"),
             Unmet::Nobody => write!(f, "no call is in a cell with these neighbours"),
         }
     }

@@ -1,4 +1,4 @@
-//! Why an attempt at handover is taken back, by the input that undoes it.
+//! Why an attempt at handover is undone, by the input that undoes it.
 ghost use Rattle.std.specs.Prelude.{◌≡◌};
 ghost use Rattle.run_summaries.specs.Causes as said;
 

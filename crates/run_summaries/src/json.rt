@@ -1,7 +1,8 @@
 //! The counts as one JSON object.
 //!
-//! No clause says what is written: that is shown by tests. What the numbers are is said in `run_counts`.
-use crate::figures::{Scope, figure};
+//! No clause says what is written: tests show it. `run_counts` says what the numbers are.
+use crate::figures::{Figure, Scope, count_of, figure_of};
+use crate::rates::{ENDS, Rate, Tried, end_at, is_begin, is_goal, moved, rate_of};
 use crate::runs::RunSummary;
 use radio_book::event::AttemptKind;
 use run_counts::{Cause, Summary, What};
@@ -33,6 +34,31 @@ struct Undone {
     not_told: u64,
 }
 
+/// How many were asked for, and how many succeeded; in percent, with one digit, rounded down.
+#[derive(Drop, Serialize)]
+struct Success {
+    asked: u64,
+    done: u64,
+    percent: Option<f64>,
+}
+
+#[derive(Drop, Serialize)]
+struct Rates {
+    activations: Success,
+    internal: Success,
+    incoming: Success,
+    outgoing: Success,
+}
+
+/// The attempts from one cell to another; `None` for a cell of another controller.
+#[derive(Drop, Serialize)]
+struct Moved {
+    from: Option<u8>,
+    to: Option<u8>,
+    attempts: u64,
+    completed: u64,
+}
+
 /// How often each message came, or was sent, by its name.
 type Messages<'a> = BTreeMap<&'a str, u64>;
 
@@ -47,6 +73,7 @@ struct Figures<'a> {
     undone: Undone,
     turned_away: u64,
     faults: u64,
+    rates: Rates,
     received: Messages<'a>,
     sent: Messages<'a>,
 }
@@ -56,6 +83,7 @@ struct Figures<'a> {
 struct Controller<'a> {
     all: Figures<'a>,
     cells: Vec<Figures<'a>>,
+    handovers: Vec<Moved>,
 }
 
 /// Those of one controller or two.
@@ -66,28 +94,51 @@ struct Controllers<'a> {
 
 fn calls_of<A: Allocator>(summary: &Summary<A>, scope: Scope) -> Calls {
     Calls {
-        opened: figure(summary, scope, What::Opened),
-        cleared: figure(summary, scope, What::Cleared),
+        opened: count_of(summary, scope, What::Opened),
+        cleared: count_of(summary, scope, What::Cleared),
     }
 }
 
 fn attempts_of<A: Allocator>(summary: &Summary<A>, scope: Scope) -> Attempts {
     Attempts {
-        internal: figure(summary, scope, What::Began(AttemptKind::Internal)),
-        incoming: figure(summary, scope, What::Began(AttemptKind::Incoming)),
-        outgoing: figure(summary, scope, What::Began(AttemptKind::Outgoing)),
+        internal: count_of(summary, scope, What::Began(AttemptKind::Internal)),
+        incoming: count_of(summary, scope, What::Began(AttemptKind::Incoming)),
+        outgoing: count_of(summary, scope, What::Began(AttemptKind::Outgoing)),
     }
 }
 
 fn undone_of<A: Allocator>(summary: &Summary<A>, scope: Scope) -> Undone {
     Undone {
-        activation_refused: figure(summary, scope, What::Undone(Cause::ActivationRefused)),
-        mobile_returned: figure(summary, scope, What::Undone(Cause::MobileReturned)),
-        timer: figure(summary, scope, What::Undone(Cause::Timer)),
-        rejected_by_centre: figure(summary, scope, What::Undone(Cause::CentreRejected)),
-        operator: figure(summary, scope, What::Undone(Cause::Operator)),
-        call_cleared: figure(summary, scope, What::Undone(Cause::CallCleared)),
-        not_told: figure(summary, scope, What::Undone(Cause::Untold)),
+        activation_refused: count_of(summary, scope, What::Undone(Cause::ActivationRefused)),
+        mobile_returned: count_of(summary, scope, What::Undone(Cause::MobileReturned)),
+        timer: count_of(summary, scope, What::Undone(Cause::Timer)),
+        rejected_by_centre: count_of(summary, scope, What::Undone(Cause::CentreRejected)),
+        operator: count_of(summary, scope, What::Undone(Cause::Operator)),
+        call_cleared: count_of(summary, scope, What::Undone(Cause::CallCleared)),
+        not_told: count_of(summary, scope, What::Undone(Cause::Untold)),
+    }
+}
+
+/// Tenths of a percent in percent.
+fn percent_of(tenths: u128) -> f64 {
+    f64::from(u32::try_from(tenths).unwrap_or(u32::MAX)) / 10.0
+}
+
+fn success_of(rate: Rate) -> Success {
+    Success {
+        asked: rate.asked,
+        done: rate.done,
+        percent: rate.tenths().map(percent_of),
+    }
+}
+
+fn rates_of<A: Allocator>(summary: &Summary<A>, scope: Scope) -> Rates {
+    let success = |tried| success_of(rate_of(summary, scope, tried));
+    Rates {
+        activations: success(Tried::Activations),
+        internal: success(Tried::Attempts(AttemptKind::Internal)),
+        incoming: success(Tried::Attempts(AttemptKind::Incoming)),
+        outgoing: success(Tried::Attempts(AttemptKind::Outgoing)),
     }
 }
 
@@ -106,7 +157,7 @@ fn messages_of<'a, A: Allocator>(
         } else {
             What::Received(place)
         };
-        let count = figure(summary, scope, what);
+        let count = count_of(summary, scope, what);
         if count > 0 {
             messages.insert(name.as_str(), count)?;
         }
@@ -135,10 +186,11 @@ fn figures_of<'a, A: Allocator>(
         cell: cell_of(scope),
         calls: calls_of(summary, scope),
         attempts: attempts_of(summary, scope),
-        completed: figure(summary, scope, What::Completed),
+        completed: figure_of(summary, scope, Figure::Completed),
         undone: undone_of(summary, scope),
-        turned_away: figure(summary, scope, What::TurnedAway),
-        faults: figure(summary, scope, What::Fault),
+        turned_away: count_of(summary, scope, What::TurnedAway),
+        faults: count_of(summary, scope, What::Fault),
+        rates: rates_of(summary, scope),
         received,
         sent,
     })
@@ -159,6 +211,42 @@ fn cells_of<'a, A: Allocator>(
     Ok(cells)
 }
 
+/// Adds the attempts from one end to each other.
+fn push_from<A: Allocator>(
+    summary: &Summary<A>,
+    from: Option<u8>,
+    handovers: &mut Vec<Moved>,
+) -> Result<(), AllocError> {
+    for place in 0..ENDS {
+        let to = end_at(place);
+        let rate = moved(summary, from, to);
+        if is_goal(summary, to) && !rate.is_empty() {
+            handovers.push(Moved {
+                from,
+                to,
+                attempts: rate.asked,
+                completed: rate.done,
+            })?;
+        }
+    }
+    Ok(())
+}
+
+/// The attempts from each end to each other.
+fn handovers_of<A: Allocator>(
+    alloc: Global,
+    summary: &Summary<A>,
+) -> Result<Vec<Moved>, AllocError> {
+    let mut handovers = Vec::new(alloc);
+    for place in 0..ENDS {
+        let from = end_at(place);
+        if is_begin(summary, from) {
+            push_from(summary, from, &mut handovers)?;
+        }
+    }
+    Ok(handovers)
+}
+
 /// All figures of a controller.
 fn controller_of<'a, A: Allocator>(
     alloc: Global,
@@ -167,7 +255,12 @@ fn controller_of<'a, A: Allocator>(
 ) -> Result<Controller<'a>, AllocError> {
     let cells = cells_of(alloc, summary, names)?;
     let all = figures_of(alloc, summary, Scope::All, names)?;
-    Ok(Controller { all, cells })
+    let handovers = handovers_of(alloc, summary)?;
+    Ok(Controller {
+        all,
+        cells,
+        handovers,
+    })
 }
 
 /// All figures of one controller or two.

@@ -1,4 +1,4 @@
-//! What the lines of a run tell.
+//! Counts the lines of a run.
 use crate::causes::cause_of;
 use crate::runs::RunSummary;
 use exchange::Inbound;
@@ -8,7 +8,7 @@ use std::alloc::{AllocError, Allocator};
 use trace_text::trace::{Mark, Step, TraceLine};
 
 /// The cell of what comes or is sent on Abis.
-fn cell_of<A: Allocator>(content: &Content<A>) -> Option<u8> {
+pub(crate) fn cell_of<A: Allocator>(content: &Content<A>) -> Option<u8> {
     match content {
         Content::Abis(place, _) | Content::Rowless(place, _) => Some(place.cell),
         Content::A(..) | Content::Nothing => None,
@@ -63,7 +63,7 @@ impl<A: Allocator + Copy> RunSummary<A> {
         }
     }
 
-    /// Counts a line of the controller with this mark, which carries this. Where memory is refused it isn't counted.
+    /// Counts a line of the controller with this mark, with this content. If memory is refused, it isn't counted.
     pub fn add_line(
         &mut self,
         mark: Mark,

@@ -4,18 +4,18 @@ use run_counts::{Names, Summary, Told};
 use std::alloc::{AllocError, Allocator, Global};
 use trace_text::trace::Mark;
 
-/// What the lines of one controller or two told so far, counted.
+/// The counts of the lines so far, of one controller or two.
 #[derive(Drop)]
 pub struct RunSummary<A: Allocator = Global> {
     pub(crate) names: Names<A>,
     pub(crate) first: Summary<A>,
-    /// That of the peer, where there are two.
+    /// That of the peer, if there are two.
     pub(crate) peer: Option<Summary<A>>,
     pub(crate) alloc: A,
 }
 
 impl<A: Allocator + Copy> RunSummary<A> {
-    /// Of one controller or two, of which no line came yet.
+    /// The counts of one controller or two before the first line.
     pub fn new(alloc: A, has_peer: bool) -> RunSummary<A> {
         RunSummary {
             names: Names::new(alloc),
@@ -33,7 +33,7 @@ impl<A: Allocator + Copy> RunSummary<A> {
         }
     }
 
-    /// The place of the name of what octets are; nothing where there are no octets.
+    /// The place of the name of what octets are; nothing if there are no octets.
     pub(crate) fn name_of(&mut self, content: &Content<A>) -> Result<Option<usize>, AllocError> {
         match content {
             Content::Abis(..) | Content::A(..) | Content::Rowless(..) => {
@@ -44,7 +44,7 @@ impl<A: Allocator + Copy> RunSummary<A> {
         }
     }
 
-    /// Counts what a line of the controller with this mark tells. Where memory is refused it isn't counted.
+    /// Counts what a line of the controller with this mark tells. If memory is refused it isn't counted.
     pub(crate) fn add_told(&mut self, mark: Mark, told: Told) -> Result<(), AllocError> {
         match mark {
             Mark::Alone | Mark::First => self.first.add(told),

@@ -1,14 +1,17 @@
-//! The lines of a trace, as `run` prints it, read back as far as they are counted.
+//! Reads a trace's lines back, as `run` prints them, as far as they are counted.
 //!
-//! No clause says which lines can be read: that is shown by tests.
+//! No clause says which lines can be read: tests show it.
 ghost use Rattle.std.specs.Prelude.{◌≡◌};
 
+use crate::causes::cause_of;
+use crate::lines::cell_of;
 use crate::runs::RunSummary;
 use event_text::reading::read_event;
 use exchange::{Inbound, Outbound};
 use lab_script::script::{Given, ScriptFault, read_script, without_return};
 use line_words::content_of;
-use run_counts::Told;
+use radio_book::event::AttemptKind;
+use run_counts::{Told, Way};
 use std::alloc::{AllocError, Allocator, Global};
 use trace_text::trace::{Mark, TraceLine};
 
@@ -74,8 +77,12 @@ fn input_of<A: Allocator + Copy>(alloc: A, text: &str) -> Result<Option<Inbound<
 fn input_in<A: Allocator>(given: Given<A>) -> Option<Inbound<A>> {
     match given {
         Given::Input(input) => Some(input),
-        Given::Attach | Given::Set(_) | Given::HangUp(_) | Given::Ask(_) | Given::MobileOf { .. } =>
-            None,
+        Given::Attach
+        | Given::Set(_)
+        | Given::HangUp(_)
+        | Given::Ask(_)
+        | Given::MobileOf { .. }
+        | Given::Restart(_) => None,
     }
 }
 
@@ -103,20 +110,38 @@ fn home_in(reply: &str) -> Option<u8> {
     }
 }
 
-/// What an event's line tells, `event ` left out; nothing where it can't be read.
+/// The kind of an attempt, by its word.
+fn kind_in(text: &str) -> Option<AttemptKind> {
+    match text {
+        "internal" => Some(AttemptKind::Internal),
+        "incoming" => Some(AttemptKind::Incoming),
+        "outgoing" => Some(AttemptKind::Outgoing),
+        _ => None,
+    }
+}
+
+/// Which way the attempt of a record's text leads, where it has one.
+fn way_in(reply: &str) -> Option<Way> {
+    let kind = kind_in(reply.split(' ').nth(3)?)?;
+    let target = cell_in(reply.split(' ').nth(5)?);
+    Some(Way { kind, target })
+}
+
+/// What an event's line tells, `event ` left out; nothing if it can't be read.
 fn told_by_event(text: &str) -> Option<Told> {
     let (event, reply) = text.split_once(" -> ")?;
     let event = read_event(event)?;
-    let (is_accepted, home) = match reply.split(' ').next()? {
-        "done" | "owned" => (true, None),
-        "record" => (true, home_in(reply)),
-        "refused" => (false, None),
+    let (is_accepted, home, way) = match reply.split(' ').next()? {
+        "done" | "owned" => (true, None, None),
+        "record" => (true, home_in(reply), way_in(reply)),
+        "refused" => (false, None, None),
         _ => return None,
     };
     Some(Told::Asked {
         event,
         is_accepted,
         home,
+        way,
     })
 }
 
@@ -125,7 +150,7 @@ fn is_fault(text: &str) -> bool {
     text.starts_with("abis ") || text.starts_with("a ") || text.starts_with("rr ")
 }
 
-/// What a line without a message tells; nothing where it can't be read. Lines that aren't counted tell nothing.
+/// What a line without a message tells; nothing if it can't be read. Lines that aren't counted tell nothing.
 fn told_by_text(text: &str) -> Option<Told> {
     if let Some(event) = text.strip_prefix("event ") {
         return told_by_event(event);
@@ -143,7 +168,7 @@ fn told_by_text(text: &str) -> Option<Told> {
 }
 
 impl<A: Allocator + Copy> RunSummary<A> {
-    /// What an input's line tells, `in ` left out; nothing where it can't be read.
+    /// What an input's line tells, `in ` left out; nothing if it can't be read.
     fn told_by_input_text(&mut self, text: &str) -> Result<Option<Told>, AllocError> {
         let Some(input) = input_of(self.alloc, text)? else {
             return Ok(None);
@@ -153,7 +178,7 @@ impl<A: Allocator + Copy> RunSummary<A> {
         Ok(Some(self.told_by(&line, &content)?))
     }
 
-    /// What a message's line tells that is sent, `out ` left out; nothing where it can't be read.
+    /// What a message's line tells that is sent, `out ` left out; nothing if it can't be read.
     fn told_by_sent_text(&mut self, text: &str) -> Result<Option<Told>, AllocError> {
         let Some(input) = input_of(self.alloc, text)? else {
             return Ok(None);
@@ -166,10 +191,27 @@ impl<A: Allocator + Copy> RunSummary<A> {
         Ok(Some(self.told_by(&line, &content)?))
     }
 
-    /// What a line tells, without its mark and words; nothing where it can't be read.
+    /// What a line tells of which the controller was given this in another's place, `for ` left out; nothing where it can't be
+    /// read. No message came, so that none is counted.
+    fn told_in_place(&mut self, text: &str) -> Result<Option<Told>, AllocError> {
+        let Some(input) = input_of(self.alloc, text)? else {
+            return Ok(None);
+        };
+        let content = content_of(self.alloc, &TraceLine::Input(&input))?;
+        Ok(Some(Told::Input {
+            cell: cell_of(&content),
+            cause: cause_of(&input, &content),
+            name: None,
+        }))
+    }
+
+    /// What a line tells, without its mark and words; nothing if it can't be read.
     fn told_in(&mut self, text: &str) -> Result<Option<Told>, AllocError> {
         if let Some(input) = text.strip_prefix("in ") {
             return self.told_by_input_text(without_origin(input));
+        }
+        if let Some(input) = text.strip_prefix("for ") {
+            return self.told_in_place(input);
         }
         match text.strip_prefix("out ") {
             Some(sent) => self.told_by_sent_text(sent),
@@ -202,8 +244,8 @@ fn has_marks(trace: &str) -> bool {
         .any(|line| line.starts_with("1: ") || line.starts_with("2: "))
 }
 
-/// The counts of a trace: of its lines that begin with `in `, `event `, `none free `, `out ` or `fault `, behind a controller's
-/// mark where there are two, and in front of words. All others are passed over.
+/// The counts of a trace: of its lines that begin with `in `, `for `, `event `, `none free `, `out ` or `fault `, behind a
+/// controller's mark where there are two, and in front of words. All others are passed over.
 pub fn summary_of_trace(alloc: Global, trace: &str) -> Result<RunSummary, TraceFault> {
     let mut run = RunSummary::new(alloc, has_marks(trace));
     for (index, line) in trace.split('\n').enumerate() {

@@ -1,4 +1,4 @@
-//! Attempts at handover, as far as the lines of a trace tell of them.
+//! Attempts at handover, as far as the lines of a trace show them.
 use channel_fsm::ChanId;
 use radio_book::event::{Event, Reply};
 use std::alloc::{AllocError, Allocator, Global};

@@ -69,20 +69,33 @@ pub(crate) fn push_marked<A: Allocator + Copy>(
     Ok(())
 }
 
-/// The bars as a chart has them.
+/// A bar as a picture has it with so many rows from this one on; nothing where it stands along none of them.
+fn bar_along<A: Allocator>(bar: &Marked<A>, first: u32, rows: u32) -> Option<Bar<'_>> {
+    if bar.last < first || bar.first >= first.saturating_add(rows) {
+        return None;
+    }
+    Some(Bar {
+        first: bar.first.saturating_sub(first),
+        last: bar.last.saturating_sub(first),
+        goes_on: bar.first < first,
+        side: bar.side,
+        track: bar.track,
+        text: bar.text.as_str(),
+    })
+}
+
+/// The bars as a picture has them with so many rows from this one on.
 pub(crate) fn bars_of<A: Allocator + Copy>(
     alloc: A,
     marked: &[Marked<A>],
+    first: u32,
+    rows: u32,
 ) -> Result<Vec<Bar<'_>, A>, AllocError> {
     let mut bars = Vec::new(alloc);
     for bar in marked {
-        bars.push(Bar {
-            first: bar.first,
-            last: bar.last,
-            side: bar.side,
-            track: bar.track,
-            text: bar.text.as_str(),
-        })?;
+        if let Some(bar) = bar_along(bar, first, rows) {
+            bars.push(bar)?;
+        }
     }
     Ok(bars)
 }

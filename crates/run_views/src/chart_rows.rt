@@ -1,107 +1,38 @@
 //! The rows of a chart.
 use crate::attempts::Attempts;
-use crate::bars::{Marked, bars_of, push_marked};
-use crate::lanes::{Lanes, Post, bars_are};
-use chart::{Bar, Chart, Lane, Row, Shape, Side, text_room};
+use crate::bars::{Marked, push_marked};
+use crate::drawing::{Drawing, Drawn, Happening, Part, count, write_drawing};
+use crate::lanes::Post;
+use chart::{Frame, Side};
 use event_text::writing::EventText;
 use exchange::Inbound;
-use line_words::{Content, Place, message_name};
+use line_words::{Content, Passed, Place, failure_name, message_name, passed_on};
+use radio_book::event::{Event, Reply};
 use run_listeners::LabFault;
 use std::alloc::{AllocError, Allocator, Global};
-use std::io::{self, Write};
+use std::io::Write;
 use trace_text::bad::BadText;
 use trace_text::trace::{InboundText, Mark, ReplyText, Step, TraceLine, UsageText};
 
-/// What happens in a row.
-#[derive(Clone, Copy)]
-enum Happening {
-    Nothing,
-    Arrow { from: Post, to: Post },
-    Note { at: Post },
-}
+/// So many rows stand on a page.
+const PAGE: u32 = 60;
 
-/// A row, with its texts.
-#[derive(Drop)]
-struct Drawn<A: Allocator = Global> {
-    heading: String<A>,
-    happening: Happening,
-    text: String<A>,
-}
-
-/// A row as a chart with these lanes has it.
-fn row_of<'a, A: Allocator>(drawn: &'a Drawn<A>, lanes: &Lanes) -> Row<'a> {
-    let text = drawn.text.as_str();
-    Row {
-        heading: drawn.heading.as_str(),
-        shape: match drawn.happening {
-            Happening::Nothing => Shape::Nothing,
-            Happening::Arrow { from, to } => Shape::Arrow {
-                from: lanes.place(from),
-                to: lanes.place(to),
-                text,
-            },
-            Happening::Note { at } => Shape::Note {
-                lane: lanes.place(at),
-                text,
-            },
-        },
-    }
-}
-
-/// So much of the room between a lane and the next the text of an arrow between two lanes needs: its part of it, where it
-/// goes over several.
-fn arrow_needs(from: u32, to: u32, lane: u32, letters: u32) -> u32 {
-    let first = from.min(to);
-    let gaps = from.abs_diff(to).max(1);
-    if lane >= first && lane - first < gaps {
-        letters.div_ceil(gaps)
-    } else {
-        0
-    }
-}
-
-/// So much of the room between a lane and the next a row's text needs: a note's at one of them a half.
-fn needs(shape: &Shape<'_>, lane: u32) -> u32 {
-    match shape {
-        Shape::Arrow { from, to, text } => arrow_needs(*from, *to, lane, text_room(text)),
-        Shape::Note { lane: at, text } if *at == lane || at.saturating_sub(1) == lane => text_room(
-            text,
-        ).div_ceil(2),
-        Shape::Nothing | Shape::Note { .. } => 0,
-    }
-}
-
-/// So many letters have to have room between a lane and the next.
-fn room_behind(rows: &[Row<'_>], lane: u32) -> u32 {
-    let mut room = 0;
-    for row in rows {
-        room = needs(&row.shape, lane).max(room);
-    }
-    room
-}
-
-/// The lanes with these names, with as much room as the texts between them need.
-fn lanes_of<'a, A: Allocator + Copy>(
-    alloc: A,
-    names: &'a [String<A>],
-    rows: &[Row<'_>],
-) -> Result<Vec<Lane<'a>, A>, AllocError> {
-    let mut lanes = Vec::new(alloc);
-    for name in names {
-        let room = room_behind(rows, count(&lanes));
-        lanes.push(Lane {
-            name: name.as_str(),
-            room,
-        })?;
-    }
-    Ok(lanes)
+/// What of a chart stands in a picture.
+#[derive(Clone, Copy, Debug, PartialEq, Eq)]
+pub(crate) enum Extent {
+    /// All rows.
+    Whole,
+    /// Those of a page, counted from 1.
+    Page(u32),
 }
 
 /// The chart of the lines that were added.
 #[derive(Drop)]
 pub struct RunChart<A: Allocator = Global> {
+    title: String<A>,
     has_peer: bool,
-    lanes: Lanes,
+    /// Whether what only looks something up is drawn, too.
+    looks: bool,
     inputs: u64,
     rows: Vec<Drawn<A>, A>,
     first: Attempts<A>,
@@ -128,10 +59,23 @@ fn push_place<A: Allocator>(text: &mut String<A>, place: Place) -> Result<(), Al
     }
 }
 
-/// The text of a message's arrow: on Abis where it goes or comes from; its name; its call, where that is known.
+/// Appends the name of the cause for which something fails, where there is one.
+fn push_failure<A: Allocator>(
+    text: &mut String<A>,
+    failure: Option<&str>,
+) -> Result<(), AllocError> {
+    match failure {
+        Some(cause) => write!(text, ": {cause}"),
+        None => Ok(()),
+    }
+}
+
+/// The text of a message's arrow between a controller and somebody else: on Abis where it goes or comes from; its name; its
+/// call, where that is known; the name of its cause, where it says that something fails.
 fn arrow_text<A: Allocator + Copy>(
     alloc: A,
     content: &Content<A>,
+    name: &str,
     call: Option<u16>,
 ) -> Result<String<A>, AllocError> {
     let mut text = String::new(alloc);
@@ -139,42 +83,69 @@ fn arrow_text<A: Allocator + Copy>(
         Content::Abis(place, _) | Content::Rowless(place, _) => push_place(&mut text, *place)?,
         Content::A(..) | Content::Nothing => {}
     }
-    text.push_str(&message_name(alloc, content)?)?;
+    text.push_str(name)?;
     if let Some(call) = call {
         write!(text, ", call {call}")?;
     }
+    push_failure(&mut text, failure_name(content))?;
     Ok(text)
 }
 
-/// Prints the chart of these.
-fn print_chart<'a, W: Write>(
-    out: &mut W,
-    has_peer: bool,
-    lanes: &'a [Lane<'a>],
-    rows: &'a [Row<'a>],
-    bars: &'a [Bar<'a>],
-) -> io::Result<()> {
-    let chart = Chart {
-        lanes,
-        rows,
-        bars,
-        left: bars_are(has_peer, Side::Left),
-        right: bars_are(has_peer, Side::Right),
-    };
-    write!(out, "{chart}")
+/// The text of the arrow of a radio resource message between a station and a mobile.
+fn passed_text<A: Allocator + Copy>(alloc: A, passed: Passed) -> Result<String<A>, AllocError> {
+    let mut text = String::from_str(alloc, passed.inner)?;
+    push_failure(&mut text, passed.failure)?;
+    Ok(text)
 }
 
-/// So many.
-fn count<T>(items: &[T]) -> u32 {
-    u32::try_from(items.len()).unwrap_or(u32::MAX)
+/// Whether an event only looks something up.
+fn is_look(event: Event) -> bool {
+    match event {
+        Event::Look(_) | Event::Owner(_) => true,
+        Event::Open(..)
+        | Event::Clear(_)
+        | Event::Take(..)
+        | Event::Reserve(..)
+        | Event::Activate(_)
+        | Event::Command(_)
+        | Event::Complete(_)
+        | Event::Undo(..)
+        | Event::Confirm(_)
+        | Event::Refuse(_)
+        | Event::Detect(_)
+        | Event::Released(_)
+        | Event::Require(_)
+        | Event::Order(_)
+        | Event::Left(_) => false,
+    }
+}
+
+/// How an event is framed that got this reply.
+fn frame_of(reply: Reply) -> Frame {
+    if reply.is_accepted() {
+        Frame::Thin
+    } else {
+        Frame::Thick
+    }
+}
+
+/// The rows of a page, counted from 1.
+fn page_of<A: Allocator>(rows: &[Drawn<A>], page: u32) -> Part<'_, A> {
+    let first = page.saturating_sub(1).saturating_mul(PAGE);
+    let behind = rows.get(first as usize..).unwrap_or(&[]);
+    Part {
+        first,
+        rows: behind.get(..PAGE as usize).unwrap_or(behind),
+    }
 }
 
 impl<A: Allocator + Copy> RunChart<A> {
-    /// A chart without a row, of one controller or of two.
-    pub fn new(alloc: A, has_peer: bool) -> RunChart<A> {
+    /// A chart without a row, of one controller or of two, with what only looks something up or without.
+    pub fn new(alloc: A, has_peer: bool, looks: bool) -> RunChart<A> {
         RunChart {
+            title: String::new(alloc),
             has_peer,
-            lanes: Lanes::new(has_peer),
+            looks,
             inputs: 0,
             rows: Vec::new(alloc),
             first: Attempts::new(alloc),
@@ -183,30 +154,101 @@ impl<A: Allocator + Copy> RunChart<A> {
         }
     }
 
+    /// Its title is this, and the call whose lines alone are drawn, where there is one.
+    pub(crate) fn name(&mut self, title: &str, only: Option<u16>) -> Result<(), AllocError> {
+        self.title = match only {
+            Some(call) => format!(in self.alloc; "{title}, call {call}")?,
+            None => String::from_str(self.alloc, title)?,
+        };
+        Ok(())
+    }
+
     /// Adds a row.
     fn push(
         &mut self,
         heading: String<A>,
         happening: Happening,
         text: String<A>,
+        onward: String<A>,
     ) -> Result<(), AllocError> {
         self.rows.push(Drawn {
             heading,
             happening,
             text,
+            onward,
         })?;
         Ok(())
     }
 
+    /// No text.
+    fn blank(&self) -> String<A> {
+        String::new(self.alloc)
+    }
+
     /// Adds a row with a heading alone.
     fn head(&mut self, heading: String<A>) -> Result<(), AllocError> {
-        self.push(heading, Happening::Nothing, String::new(self.alloc))
+        let (text, onward) = (self.blank(), self.blank());
+        self.push(heading, Happening::Nothing, text, onward)
     }
 
     /// Adds a note at a controller.
-    fn note(&mut self, mark: Mark, text: String<A>) -> Result<(), AllocError> {
+    fn note(&mut self, mark: Mark, text: String<A>, frame: Frame) -> Result<(), AllocError> {
         let at = Post::Controller(mark);
-        self.push(String::new(self.alloc), Happening::Note { at }, text)
+        let (heading, onward) = (self.blank(), self.blank());
+        self.push(heading, Happening::Note { at, frame }, text, onward)
+    }
+
+    /// Adds the arrow of a message between a controller and somebody else.
+    fn direct(
+        &mut self,
+        heading: String<A>,
+        mark: Mark,
+        is_sent: bool,
+        other: Post,
+        text: String<A>,
+    ) -> Result<(), AllocError> {
+        let own = Post::Controller(mark);
+        let happening = if is_sent {
+            Happening::Arrow {
+                from: own,
+                to: other,
+            }
+        } else {
+            Happening::Arrow {
+                from: other,
+                to: own,
+            }
+        };
+        let onward = self.blank();
+        self.push(heading, happening, text, onward)
+    }
+
+    /// Adds the arrows of a message that a station passes on between a controller and a mobile.
+    fn relayed(
+        &mut self,
+        heading: String<A>,
+        mark: Mark,
+        is_sent: bool,
+        by: Post,
+        outer: String<A>,
+        inner: String<A>,
+    ) -> Result<(), AllocError> {
+        let (own, mobile) = (Post::Controller(mark), Post::Mobile(mark));
+        if is_sent {
+            let happening = Happening::Relayed {
+                from: own,
+                by,
+                to: mobile,
+            };
+            self.push(heading, happening, outer, inner)
+        } else {
+            let happening = Happening::Relayed {
+                from: mobile,
+                by,
+                to: own,
+            };
+            self.push(heading, happening, inner, outer)
+        }
     }
 
     /// Adds the arrow of a message between a controller and somebody else, where there is a message.
@@ -221,14 +263,18 @@ impl<A: Allocator + Copy> RunChart<A> {
         let Some(other) = other_end(mark, content) else {
             return Ok(());
         };
-        self.lanes.add(other);
-        let (from, to) = if is_sent {
-            (Post::Controller(mark), other)
-        } else {
-            (other, Post::Controller(mark))
-        };
-        let text = arrow_text(self.alloc, content, call)?;
-        self.push(heading, Happening::Arrow { from, to }, text)
+        match passed_on(content) {
+            Some(passed) => {
+                let outer = arrow_text(self.alloc, content, passed.outer, call)?;
+                let inner = passed_text(self.alloc, passed)?;
+                self.relayed(heading, mark, is_sent, other, outer, inner)
+            }
+            None => {
+                let name = message_name(self.alloc, content)?;
+                let text = arrow_text(self.alloc, content, &name, call)?;
+                self.direct(heading, mark, is_sent, other, text)
+            }
+        }
     }
 
     /// Adds an input: its number beside its arrow, or in a row of its own with its words.
@@ -261,20 +307,36 @@ impl<A: Allocator + Copy> RunChart<A> {
         }
     }
 
-    /// Adds what was asked of a book.
-    fn asked(&mut self, mark: Mark, step: Step, call: Option<u16>) -> Result<(), AllocError> {
-        let text = match step {
-            Step::Asked(event, reply) => {
-                let row = count(&self.rows);
-                self.attempts(mark).ask(row, event, reply, call)?;
-                format!(in self.alloc; "{} -> {}", EventText(event), ReplyText(reply))?
-            }
-            Step::NoneFree(cell, _) => format!(in self.alloc; "none free in cell {cell}")?,
-        };
-        self.note(mark, text)
+    /// Adds an event that a book was asked, with its reply. What only looks something up is left out, unless it is asked for or
+    /// was refused.
+    fn event(
+        &mut self,
+        mark: Mark,
+        event: Event,
+        reply: Reply,
+        call: Option<u16>,
+    ) -> Result<(), AllocError> {
+        if is_look(event) && reply.is_accepted() && !self.looks {
+            return Ok(());
+        }
+        let row = count(&self.rows);
+        self.attempts(mark).ask(row, event, reply, call)?;
+        let text = format!(in self.alloc; "{} -> {}", EventText(event), ReplyText(reply))?;
+        self.note(mark, text, frame_of(reply))
     }
 
-    /// Adds a line of a controller with this mark, which carries this, about this call. Where memory is refused the chart may
+    /// Adds what was asked of a book.
+    fn asked(&mut self, mark: Mark, step: Step, call: Option<u16>) -> Result<(), AllocError> {
+        match step {
+            Step::Asked(event, reply) => self.event(mark, event, reply, call),
+            Step::NoneFree(cell, _) => {
+                let text = format!(in self.alloc; "none free in cell {cell}")?;
+                self.note(mark, text, Frame::Thick)
+            }
+        }
+    }
+
+    /// Adds a line of the controller with this mark, with this content, about this call. If memory is refused, the chart may
     /// lack a row of it.
     pub fn add_line(
         &mut self,
@@ -285,11 +347,14 @@ impl<A: Allocator + Copy> RunChart<A> {
     ) -> Result<(), AllocError> {
         match line {
             TraceLine::Input(input) => self.input(mark, *input, content, call),
-            TraceLine::Sent(_) => self.arrow(String::new(self.alloc), mark, true, content, call),
+            TraceLine::Sent(_) => {
+                let heading = self.blank();
+                self.arrow(heading, mark, true, content, call)
+            }
             TraceLine::Step(step) => self.asked(mark, *step, call),
             TraceLine::Fault(bad) => {
                 let text = format!(in self.alloc; "fault {}", BadText(*bad))?;
-                self.note(mark, text)
+                self.note(mark, text, Frame::Thick)
             }
             TraceLine::Limit => {
                 let text = format!(in self.alloc; "{line}")?;
@@ -297,7 +362,7 @@ impl<A: Allocator + Copy> RunChart<A> {
             }
             TraceLine::End(usage) => {
                 let text = format!(in self.alloc; "{}", UsageText(*usage))?;
-                self.note(mark, text)
+                self.note(mark, text, Frame::Thin)
             }
         }
     }
@@ -314,13 +379,20 @@ impl<A: Allocator + Copy> RunChart<A> {
         }
     }
 
-    /// The rows as a chart has them.
-    fn drawn(&self) -> Result<Vec<Row<'_>, A>, AllocError> {
-        let mut rows = Vec::new(self.alloc);
-        for row in &self.rows {
-            rows.push(row_of(row, &self.lanes))?;
+    /// How many pages it has.
+    pub(crate) fn pages(&self) -> u32 {
+        count(&self.rows).div_ceil(PAGE).max(1)
+    }
+
+    /// The title of a picture.
+    fn title_of(&self, extent: Extent) -> Result<String<A>, AllocError> {
+        let title = self.title.as_str();
+        match extent {
+            Extent::Whole => String::from_str(self.alloc, title),
+            Extent::Page(page) => {
+                format!(in self.alloc; "{title}, page {page} of {}", self.pages())
+            }
         }
-        Ok(rows)
     }
 
     /// The bars, with their texts.
@@ -332,19 +404,27 @@ impl<A: Allocator + Copy> RunChart<A> {
         Ok(marked)
     }
 
-    /// Writes the chart as an SVG that stands alone. Nothing is written where memory is refused.
-    pub fn write_to<W: Write>(&self, out: &mut W) -> Result<(), LabFault> {
-        let rows = self.drawn()?;
-        let names = self.lanes.names(self.alloc)?;
-        let lanes = lanes_of(self.alloc, &names, &rows)?;
+    /// The rows of a picture.
+    fn part(&self, extent: Extent) -> Part<'_, A> {
+        match extent {
+            Extent::Whole => Part {
+                first: 0,
+                rows: &self.rows,
+            },
+            Extent::Page(page) => page_of(&self.rows, page),
+        }
+    }
+
+    /// Writes a picture as an SVG that stands alone. Nothing is written where memory is refused.
+    pub(crate) fn write_to<W: Write>(&self, extent: Extent, out: &mut W) -> Result<(), LabFault> {
+        let title = self.title_of(extent)?;
         let marked = self.marked()?;
-        let bars = bars_of(self.alloc, &marked)?;
-        Ok(print_chart(
-            out,
-            self.has_peer,
-            lanes.as_slice(),
-            rows.as_slice(),
-            bars.as_slice(),
-        )?)
+        let drawing = Drawing {
+            title: &title,
+            has_peer: self.has_peer,
+            part: self.part(extent),
+            marked: &marked,
+        };
+        write_drawing(self.alloc, drawing, out)
     }
 }

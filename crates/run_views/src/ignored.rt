@@ -1,4 +1,4 @@
-//! Inputs that come to nothing.
+//! Inputs without effect.
 use cell_table::Site;
 use channel_fsm::ChanState;
 use exchange::{Inbound, Line};
@@ -24,6 +24,14 @@ pub(crate) fn is_nowhere<A: Allocator + Copy>(turn: &Turn<A>, site: &Site<A>) ->
         Inbound::Operator(Line::Seize { cell, .. }) => *cell >= site.cells(),
         Inbound::Operator(_) | Inbound::Expiry { .. } | Inbound::Abis { .. } | Inbound::A { .. } =>
             { false }
+    }
+}
+
+/// Whether a message on Abis is about a channel that the site lacks.
+pub(crate) fn is_off_site<A: Allocator + Copy>(content: &Content<A>, site: &Site<A>) -> bool {
+    match content {
+        Content::Abis(place, Some(_)) => place.chan.is_some_and(|chan| !site.is_traffic(chan)),
+        Content::Abis(_, None) | Content::Rowless(..) | Content::A(..) | Content::Nothing => false,
     }
 }
 

@@ -1,4 +1,4 @@
-//! Who stands where.
+//! The columns of a chart: who is in which.
 use chart::Side;
 use std::alloc::{AllocError, Allocator};
 use trace_text::trace::Mark;
@@ -6,6 +6,8 @@ use trace_text::trace::Mark;
 /// Who stands at a lane.
 #[derive(Clone, Copy, Debug, PartialEq, Eq)]
 pub(crate) enum Post {
+    /// A mobile, on a channel of a station of the controller with this mark.
+    Mobile(Mark),
     /// The station of a cell, of the controller with this mark.
     Station(Mark, u8),
     /// The controller with this mark.
@@ -14,11 +16,13 @@ pub(crate) enum Post {
     Centre,
 }
 
-/// The stations that have lanes: those with which a message was exchanged.
+/// The stations of a controller that have lanes: those with which a message was exchanged; and whether mobiles have one.
 #[derive(Clone, Copy)]
 struct Stations {
     /// Whether the station of each cell is one.
     has_lane: [bool; 256],
+    /// Whether a mobile has said or heard something.
+    has_mobile: bool,
 }
 
 /// How many of these are.
@@ -37,6 +41,7 @@ impl Stations {
     fn new() -> Stations {
         Stations {
             has_lane: [false; 256],
+            has_mobile: false,
         }
     }
 
@@ -54,10 +59,16 @@ impl Stations {
     fn below(&self, cell: u8) -> u32 {
         count(&self.has_lane[..cell as usize])
     }
+
+    /// How many lanes mobiles have.
+    fn mobiles(&self) -> u32 {
+        u32::from(self.has_mobile)
+    }
 }
 
-/// The lanes of one controller: its stations by the numbers of their cells, then it, then the switching centre. With a peer,
-/// the switching centre stands between the two, and the peer's stations at the right.
+/// The lanes of one controller: mobiles, its stations by the numbers of their cells, then it, then the switching centre. With
+/// a peer, the switching centre stands between the two, and at the right the peer's stations, then mobiles again. A station
+/// and mobiles have a lane only where they say or hear something.
 #[derive(Drop)]
 pub(crate) struct Lanes {
     has_peer: bool,
@@ -70,6 +81,18 @@ const OTHERS_OF_ONE: &[&str] = &["controller", "switching centre"];
 
 /// Whose lanes stand between those of the stations of two.
 const OTHERS_OF_TWO: &[&str] = &["controller 1", "switching centre", "controller 2"];
+
+/// Adds the name of mobiles, where they have a lane.
+fn push_mobile<A: Allocator + Copy>(
+    alloc: A,
+    stations: &Stations,
+    names: &mut Vec<String<A>, A>,
+) -> Result<(), AllocError> {
+    if stations.has_mobile {
+        names.push(String::from_str(alloc, "mobile")?)?;
+    }
+    Ok(())
+}
 
 /// Adds the names of stations.
 fn push_stations<A: Allocator + Copy>(
@@ -96,9 +119,11 @@ impl Lanes {
         }
     }
 
-    /// A station has a lane from here on; anybody else has one anyway.
+    /// A station, or mobiles, have a lane from here on; anybody else has one anyway.
     pub(crate) fn add(&mut self, post: Post) {
         match post {
+            Post::Mobile(Mark::Alone | Mark::First) => self.first.has_mobile = true,
+            Post::Mobile(Mark::Peer) => self.peer.has_mobile = true,
             Post::Station(Mark::Alone | Mark::First, cell) => self.first.add(cell),
             Post::Station(Mark::Peer, cell) => self.peer.add(cell),
             Post::Controller(_) | Post::Centre => {}
@@ -107,9 +132,13 @@ impl Lanes {
 
     /// The place of somebody's lane, counted from 0.
     pub(crate) fn place(&self, post: Post) -> u32 {
-        let first = self.first.len();
+        let mobiles = self.first.mobiles();
+        let first = mobiles.saturating_add(self.first.len());
         match post {
-            Post::Station(Mark::Alone | Mark::First, cell) => self.first.below(cell),
+            Post::Mobile(Mark::Alone | Mark::First) => 0,
+            Post::Station(Mark::Alone | Mark::First, cell) => {
+                mobiles.saturating_add(self.first.below(cell))
+            }
             Post::Controller(Mark::Alone | Mark::First) => first,
             Post::Centre => first.saturating_add(1),
             Post::Controller(Mark::Peer) => first.saturating_add(2),
@@ -118,6 +147,7 @@ impl Lanes {
                     .saturating_add(3)
                     .saturating_add(self.peer.below(cell))
             }
+            Post::Mobile(Mark::Peer) => { first.saturating_add(3).saturating_add(self.peer.len()) }
         }
     }
 
@@ -132,12 +162,14 @@ impl Lanes {
             ("", OTHERS_OF_ONE)
         };
         let mut names = Vec::new(alloc);
+        push_mobile(alloc, &self.first, &mut names)?;
         push_stations(alloc, &self.first, of_first, &mut names)?;
         for other in others {
             names.push(String::from_str(alloc, *other)?)?;
         }
         // without a peer there is no station of its
         push_stations(alloc, &self.peer, " of 2", &mut names)?;
+        push_mobile(alloc, &self.peer, &mut names)?;
         Ok(names)
     }
 }

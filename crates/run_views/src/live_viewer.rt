@@ -1,4 +1,4 @@
-//! A listener that views what comes of lines as they come.
+//! A listener that shows views of lines as they come.
 use crate::sheets::{Sheet, Sheets, say_left_out};
 use crate::viewer::Viewer;
 use capture::RunCapture;
@@ -13,22 +13,23 @@ use std::io::{self, Write};
 use trace_text::trace::Mark;
 use view_options::Views;
 
-/// Prints the trace of lines as they come, as [`Viewer`] does that of a run, and writes the capture to its file as it grows. A
-/// capture that can't be written any more ends alone. What the lines tell is counted, and shown where a line asks for it.
+/// Prints the trace of lines as they come, as [`Viewer`] does for a run, and writes the capture to its file as it grows. If
+/// the capture can't be written any more, only the capture ends. The lines are counted, and the counts are shown when a line
+/// asks for them.
 #[derive(Drop)]
-pub struct LiveViewer<'a, 'p, W: Write, F: Write + Drop, A: Allocator + Copy = Global> {
+pub struct LiveViewer<'a, W: Write, F: Write + Drop, A: Allocator + Copy = Global> {
     viewer: Viewer<'a, W, A>,
     /// The capture's file, as long as it can be written.
-    pcap: Option<Sheet<'p, F>>,
+    pcap: Option<Sheet<F>>,
     /// Whether it couldn't be.
     is_cut: bool,
-    /// Why nothing came of the line, where it asked in vain.
+    /// Why the line had no effect, if it asked in vain.
     unmet: Option<Unmet>,
 }
 
 /// Writes what a capture has of its file, and then has it no more.
 fn write_on<F: Write + Drop, A: Allocator + Copy>(
-    sheet: &mut Sheet<'_, F>,
+    sheet: &mut Sheet<F>,
     capture: &mut RunCapture<A>,
 ) -> io::Result<()> {
     sheet.out.write_all(capture.octets())?;
@@ -47,22 +48,16 @@ fn say_cut<E: Write>(path: &str, error: io::Error, errors: &mut E) -> io::Result
     )
 }
 
-impl<'a, 'p, W: Write, F: Write + OpenFile + Drop, A: Allocator + Copy> LiveViewer<
-    'a,
-    'p,
-    W,
-    F,
-    A,
-> {
-    /// A viewer that prints to `out`. The capture's file is emptied, and gets its header; where that can't be, `errors` says
-    /// why. The chart's stays as it is: a chart is of a run that has ended.
+impl<'a, W: Write, F: Write + OpenFile + Drop, A: Allocator + Copy> LiveViewer<'a, W, F, A> {
+    /// A viewer that prints to `out`. The capture's file is emptied, and gets its header; if that fails, `errors` says why.
+    /// The chart's file stays as it is: a chart shows a run that has ended.
     pub fn new<E: Write>(
         alloc: A,
         views: &Views<'_>,
-        sheets: Sheets<'p, F>,
+        sheets: Sheets<F>,
         out: &'a mut W,
         errors: &mut E,
-    ) -> Result<LiveViewer<'a, 'p, W, F, A>, LabFault> {
+    ) -> Result<LiveViewer<'a, W, F, A>, LabFault> {
         let pcap = sheets.into_pcap(errors)?;
         let mut viewer = Viewer::new(alloc, views, false, out)?;
         viewer.begin_summary();
@@ -74,13 +69,13 @@ impl<'a, 'p, W: Write, F: Write + OpenFile + Drop, A: Allocator + Copy> LiveView
         })
     }
 
-    /// What is told begins with this book, and not with an empty one.
+    /// The trace begins with this book instead of an empty one.
     pub fn begin_with(&mut self, book: &Book<A>) -> Result<(), AllocError> {
         self.viewer.begin_with(book)
     }
 
-    /// Ends it: says on `errors` how many messages the capture hasn't. Where its file couldn't be written to the end, as
-    /// `errors` was told then, the answer is `Write`.
+    /// Ends the views, and says on `errors` how many messages the capture lacks. If its file couldn't be written to the end
+    /// (`errors` was told then), the answer is `Write`.
     pub fn finish<E: Write>(self, errors: &mut E) -> Result<(), LabFault> {
         let LiveViewer {
             viewer,
@@ -92,19 +87,21 @@ impl<'a, 'p, W: Write, F: Write + OpenFile + Drop, A: Allocator + Copy> LiveView
             return Err(LabFault::Write);
         }
         match (pcap, viewer.capture()) {
-            (Some(sheet), Some(capture)) => { say_left_out(sheet.path, capture.left_out(), errors) }
+            (Some(sheet), Some(capture)) => {
+                say_left_out(&sheet.path, capture.left_out(), errors)
+            }
             (None, _) | (_, None) => Ok(()),
         }
     }
 }
 
-impl<W: Write, F: Write + Drop, A: Allocator + Copy> LiveViewer<'_, '_, W, F, A> {
+impl<W: Write, F: Write + Drop, A: Allocator + Copy> LiveViewer<'_, W, F, A> {
     /// Ends the capture, whose file can't be written, and says so.
     fn end_capture<E: Write>(&mut self, error: io::Error, errors: &mut E) -> Result<(), LabFault> {
         self.viewer.drop_capture();
         self.is_cut = true;
         match self.pcap.take() {
-            Some(sheet) => Ok(say_cut(sheet.path, error, errors)?),
+            Some(sheet) => Ok(say_cut(&sheet.path, error, errors)?),
             None => Ok(()),
         }
     }
@@ -121,13 +118,13 @@ impl<W: Write, F: Write + Drop, A: Allocator + Copy> LiveViewer<'_, '_, W, F, A>
     }
 }
 
-impl<W: Write, F: Write + Drop, A: Allocator + Copy> Listener<A> for LiveViewer<'_, '_, W, F, A> {
+impl<W: Write, F: Write + Drop, A: Allocator + Copy> Listener<A> for LiveViewer<'_, W, F, A> {
     fn hear_unmet(&mut self, unmet: Unmet) -> Result<(), LabFault> {
         self.unmet = Some(unmet);
         Ok(())
     }
 
-    /// Where memory is refused, the messages that weren't shown yet are printed without views.
+    /// If memory is refused, the messages that weren't shown yet are printed without views.
     fn hear_turn(&mut self, mark: Mark, turn: &Turn<A>, book: &Book<A>) -> Result<(), LabFault> {
         match self.viewer.hear_turn(mark, turn, book) {
             Ok(()) => Ok(()),
@@ -160,8 +157,7 @@ impl<W: Write, F: Write + Drop, A: Allocator + Copy> Listener<A> for LiveViewer<
     }
 }
 
-impl<W: Write, F: Write + Drop, A: Allocator + Copy> LiveListener<A>
-    for LiveViewer<'_, '_, W, F, A> {
+impl<W: Write, F: Write + Drop, A: Allocator + Copy> LiveListener<A> for LiveViewer<'_, W, F, A> {
     fn hear_line_end<E: Write>(&mut self, errors: &mut E) -> Result<(), LabFault> {
         self.viewer.flush()?;
         self.write_capture(errors)

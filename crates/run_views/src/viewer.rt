@@ -1,6 +1,6 @@
-//! A listener that views a run.
+//! A listener that shows views of a run.
 use crate::chart_rows::RunChart;
-use crate::ignored::{is_ignored, is_nowhere, is_out_of_stage};
+use crate::ignored::{is_ignored, is_nowhere, is_off_site, is_out_of_stage};
 use crate::origins::{Origin, Origins};
 use capture::RunCapture;
 use cell_table::SiteFault;
@@ -17,34 +17,34 @@ use std::io::{self, Write};
 use trace_text::trace::{Mark, TraceLine, print_sent};
 use view_options::{SummaryForm, Views};
 
-/// Prints the trace of a run, with words, with what was decided and with what the books hold where that is asked for, and
-/// gathers its capture and its chart, and counts what it tells.
+/// Prints the trace of a run, with words, with decisions, and with what the books hold, if these views are asked for.
+/// Gathers its capture and its chart, and counts its lines.
 #[derive(Drop)]
 pub struct Viewer<'a, W: Write, A: Allocator + Copy = Global> {
     out: &'a mut W,
     calls: Calls<A>,
     words: bool,
-    /// What the books hold, where it is to be printed.
+    /// What the books hold, if it is to be printed.
     state: Option<StateLines<A>>,
-    /// What was decided by reports, where it is to be printed.
+    /// The decisions after reports, if they are to be printed.
     decisions: Option<Decisions<A>>,
     capture: Option<RunCapture<A>>,
     chart: Option<RunChart<A>>,
-    /// What the lines came to, where it is to be shown or may be asked for.
+    /// The counts of the lines, if they are to be shown or may be asked for.
     summary: Option<RunSummary<A>>,
-    /// How it is shown.
+    /// The form of the counts.
     form: Option<SummaryForm>,
-    /// Whether the lines of the script are shown behind the inputs.
+    /// Whether each input is followed by the number of its script line.
     lines: bool,
-    /// These, once the script was noted.
+    /// The script's lines, once they were noted.
     origins: Option<Origins<A>>,
-    /// The call whose lines alone are shown.
+    /// The call to which the lines shown are limited.
     only: Option<u16>,
-    /// Whether a line was of that call.
+    /// Whether a line was about this call.
     has_seen: bool,
     /// Whether something was run.
     has_begun: bool,
-    /// How many messages of the answer that is told now, or was told last, were shown.
+    /// How many messages of the current or the last answer were shown.
     shown: usize,
     alloc: A,
 }
@@ -76,7 +76,9 @@ impl<'a, W: Write, A: Allocator + Copy> Viewer<'a, W, A> {
                 None
             },
             capture,
-            chart: views.chart.map(|_| RunChart::new(alloc, has_peer)),
+            chart: views
+                .chart
+                .map(|chart| RunChart::new(alloc, has_peer, chart.looks)),
             summary: views.summary.map(|_| RunSummary::new(alloc, has_peer)),
             form: views.summary,
             lines: views.lines,
@@ -89,28 +91,32 @@ impl<'a, W: Write, A: Allocator + Copy> Viewer<'a, W, A> {
         })
     }
 
-    /// The capture so far, where one is asked for.
+    /// The capture so far, if one is asked for.
     pub fn capture(&self) -> Option<&RunCapture<A>> {
         self.capture.as_ref()
     }
 
-    /// The chart so far, where one is asked for.
-    pub fn chart(&self) -> Option<&RunChart<A>> {
+    /// The chart so far, if one is asked for.
+    pub(crate) fn chart(&self) -> Option<&RunChart<A>> {
         self.chart.as_ref()
     }
 
-    /// Whether something was run: not where a site or a script is refused.
+    /// Whether something was run. It wasn't if a site or a script is refused.
     pub fn has_begun(&self) -> bool {
         self.has_begun
     }
 
-    /// The call whose lines alone are shown, where no line was of it.
+    /// The call to which the lines shown are limited, if no line was about it.
     pub fn unseen_call(&self) -> Option<u16> {
         if self.has_seen { None } else { self.only }
     }
 
-    /// The run is to be one of this script: which of its lines give something is noted, where that is to be shown.
-    pub fn note_script(&mut self, script: &str) -> Result<(), AllocError> {
+    /// The run is to be one of this script: which of its lines give something is noted, where that is to be shown, and the chart
+    /// gets this title.
+    pub fn note_script(&mut self, title: &str, script: &str) -> Result<(), AllocError> {
+        if let Some(chart) = &mut self.chart {
+            chart.name(title, self.only)?;
+        }
         if self.lines {
             self.origins = Some(Origins::new(self.alloc, script)?);
         }
@@ -211,7 +217,12 @@ impl<'a, W: Write, A: Allocator + Copy> Viewer<'a, W, A> {
             return Ok(print_ignored(self.out, &turn.input)?);
         }
         let content = content_of(self.alloc, &TraceLine::Input(&turn.input))?;
-        if is_out_of_stage(turn, &content) {
+        if !is_out_of_stage(turn, &content) {
+            return Ok(());
+        }
+        if is_off_site(&content, book.site()) {
+            write!(self.out, "; ignored: no such channel")?;
+        } else {
             print_out_of_stage(self.out, &turn.input)?;
         }
         Ok(())
@@ -293,8 +304,8 @@ impl<'a, W: Write, A: Allocator + Copy> Viewer<'a, W, A> {
         }
     }
 
-    /// Prints what a run came to that has ended, in the form that was asked for. Nothing where nothing was asked for, or nothing
-    /// was run.
+    /// Prints the counts of a run that has ended, in the form that was asked for. Prints nothing if no counts are asked for,
+    /// or nothing was run.
     pub fn print_summary(&mut self, alloc: Global) -> Result<(), LabFault> {
         match self.form {
             Some(SummaryForm::Words) if self.has_begun => {

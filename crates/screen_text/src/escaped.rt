@@ -94,7 +94,7 @@ impl fmt::Display for Escaped<'_> {
 /// What is said behind a text that was shown: a blank that ends it can't be seen.
 pub fn end_of(text: &str) -> &'static str {
     if text.ends_with(' ') {
-        " (a blank ends it)"
+        " (it ends with a blank)"
     } else {
         ""
     }

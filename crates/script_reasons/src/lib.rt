@@ -1,7 +1,7 @@
-//! Why a line of a script can't be read: which of its words is wrong, and what may stand there.
+//! Why a line of a script can't be read: which of its words is wrong, and what is allowed in its place.
 //!
-//! Each line has a form: a keyword, and behind it words of its own kinds. The form is found by the first word, and the
-//! words behind that are looked at in their order; the first that is wrong is the reason.
+//! Each line has a form: a keyword, followed by words of certain kinds. The first word gives the form. Then the other words
+//! are looked at in order; the first that is wrong is the reason.
 #![tactic(auto)]
 
 mod reasons;

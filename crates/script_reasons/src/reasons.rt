@@ -12,35 +12,35 @@ use lab_script::script::{cut_side, is_blank, is_comment, is_for_peer, is_octets,
 /// What is wrong.
 #[derive(Clone, Copy, Debug, PartialEq, Eq)]
 pub enum Fault {
-    /// A byte order mark stands in front.
+    /// The line begins with a byte order mark.
     ByteOrderMark,
-    /// The line is for the second controller, and there is none.
+    /// The line is for the second controller, but there is none.
     NoPeer,
-    /// No line begins with the word, where there is a second controller.
+    /// No line begins with this word. There is a second controller.
     Keyword,
-    /// No line begins with the word, where there is no second controller.
+    /// No line begins with this word. There is no second controller.
     LoneKeyword,
-    /// No line of the second controller begins with it, behind `2: `.
+    /// No line of the second controller has this word after `2: `.
     PeerKeyword,
-    /// The line attaches what is simulated, which is for both controllers, and begins with `2: `.
+    /// The line attaches the simulators of both controllers, but begins with `2: `.
     PeerSim,
-    /// The word isn't what stands in its place.
+    /// The word isn't allowed in its place.
     Word(Slot),
     /// The line ends before this word of its form.
     Missing(Slot, Form),
-    /// The word stands behind the last of its line's form.
+    /// The word follows the last word of its line's form.
     Behind(Form),
-    /// The word is a field of no report, isn't as it may be there, or stands twice.
+    /// The word isn't a field of a report, has a wrong value, or is given twice.
     Field,
     /// The level of the serving cell is missing in a report.
     NoLevel,
     /// The neighbours are missing in a report.
     NoNeighbours,
-    /// The text has the name of a message on Abis, and says none: its fields are wrong.
+    /// The text has the name of a message on Abis, but its fields are wrong.
     OnAbis,
-    /// The text has the name of a message on A, and says none: its fields are wrong.
+    /// The text has the name of a message on A, but its fields are wrong.
     OnA,
-    /// Nothing is wrong with the line itself: what it asks is of what is simulated, and no line before attaches that.
+    /// The line itself is right, but needs simulators, and no line before it attaches them.
     NoSim(Form),
 }
 
@@ -48,9 +48,9 @@ pub enum Fault {
 #[derive(Clone, Copy, Debug, PartialEq, Eq)]
 pub struct Reason<'a> {
     pub fault: Fault,
-    /// The first word that is wrong, as it stands in the line; where it stands for a message and begins with a capital letter, all
-    /// words up to the first field. It is empty where two blanks stand beside each other, where a blank stands at an end of the
-    /// line, and where no word is wrong.
+    /// The first wrong word, as it is in the line. If it is in the place of a message and begins with a capital letter, it
+    /// is all words up to the first field. It is empty between two blanks, at a blank at the beginning or the end of the
+    /// line, and if no word is wrong.
     pub found: &'a str,
 }
 
@@ -162,7 +162,7 @@ fn fields_reason(text: &str) -> Reason<'_>
     }
 }
 
-/// What is wrong with the rest of a line, which stands in this slot; nothing where it may.
+/// What is wrong with the rest of a line, which stands in this slot; nothing if it may.
 fn rest_reason(form: Form, slot: Slot, text: &str) -> Option<Reason<'_>>
     ensures { option_map (λ reason. (reason.fault, reason.found.now)) result ≡
         said.rest_reason form slot text.now }
@@ -293,8 +293,8 @@ fn side_reason(line: &str, has_peer: bool) -> Option<Reason<'_>>
     }
 }
 
-/// Why a line of a script, without the carriage return that may end it, can't be read where it stands behind a line `sim`;
-/// `None` where it can. `has_peer` says whether there is a second controller.
+/// Why a line of a script can't be read after a line `sim`; `None` if it can. The line is given without a carriage return at
+/// its end. `has_peer` says whether there is a second controller.
 #[tactic(auto, unfolding(crate::specs::Reasons::line_reason))]
 pub fn line_reason(line: &str, has_peer: bool) -> Option<Reason<'_>>
     ensures reason { option_map (λ reason. (reason.fault, reason.found.now)) result ≡
@@ -376,8 +376,8 @@ fn first_reason(line: &str, has_peer: bool) -> Option<Reason<'_>>
     }
 }
 
-/// Why the line of this number, counted from 1, can't be read where no line before it is `sim`. `None` where it can, and
-/// where there is no such line. `has_peer` says whether there is a second controller.
+/// Why the line with this number, counted from 1, can't be read without a line `sim` before it. `None` if it can, or if
+/// there is no such line. `has_peer` says whether there is a second controller.
 #[tactic(auto, unfolding(crate::specs::Reasons::script_reason))]
 pub fn script_reason(script: &str, number: usize, has_peer: bool) -> Option<Reason<'_>>
     ensures reason { option_map (λ reason. (reason.fault, reason.found.now)) result ≡

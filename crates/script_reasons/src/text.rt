@@ -35,10 +35,10 @@ impl fmt::Display for Shown<'_> {
 
 /// What the fields of a report may be.
 const FIELDS: &str =
-    "full or sub (0 to 63), qfull or qsub (0 to 7), ta (0 to 63), power (0 to 255), times (1 to 255), each with = \
-behind it, n=CELL:LEVEL, with a comma before each further one, six at most, n=- or dtx, each once";
+    "full= or sub= (0 to 63), qfull= or qsub= (0 to 7), ta= (0 to 63), power= (0 to 255), times= (1 to 255), \
+n=CELL:LEVEL,.. (one to six neighbours), n=- or dtx, each once";
 
-/// What the value of a field of a report may be; nothing where no field has this key.
+/// What the value of a field of a report may be; nothing if no field has this key.
 fn allowed_in(key: &str) -> Option<&'static str> {
     match key {
         "full" | "sub" | "ta" => Some("0 to 63"),
@@ -46,7 +46,7 @@ fn allowed_in(key: &str) -> Option<&'static str> {
         "power" => Some("0 to 255"),
         "times" => Some("1 to 255"),
         "n" => Some(
-            "CELL:LEVEL, 0 to 255 and 0 to 63, with a comma before each further one, six at most, or -",
+            "one to six times CELL:LEVEL (0 to 255 and 0 to 63), with a comma between any two, or -",
         ),
         _ => None,
     }
@@ -60,7 +60,7 @@ fn write_field_fault<W: fmt::Write>(
 ) -> fmt::Result {
     let (key, value) = word.split_once('=').unwrap_or((word, ""));
     let Some(FieldsFault::Word(_)) = fields_fault(word) else {
-        return write!(f, "{key} stands twice");
+        return write!(f, "{key} is given twice");
     };
     match allowed_in(key) {
         Some(allowed) => {
@@ -88,7 +88,7 @@ fn allowed(slot: Slot) -> &'static str {
     match slot {
         Slot::Call => "0 to 65535",
         Slot::Cell | Slot::Trx => "0 to 255",
-        Slot::Timeslot => "0 to 7, with /0 or /1 behind it for half rate",
+        Slot::Timeslot => "0 to 7, with /0 or /1 at the end for half rate",
         Slot::OnAbis | Slot::OnA => "one octet or more, each in two hexadecimal digits",
         Slot::Timer => "T3103, T7 or T8",
         Slot::Rate => "full or half",
@@ -106,7 +106,7 @@ fn in_words(word: &str) -> &'static str {
     let is_hex = word.bytes().all(|byte| byte.is_ascii_hexdigit());
     match word.bytes().next() {
         Some(b'A'..=b'Z') => ", or a message in words",
-        Some(b'a'..=b'z') if !is_hex => ", or a message in words, in capitals",
+        Some(b'a'..=b'z') if !is_hex => ", or a message in words, with its name in capitals",
         Some(_) | None => "",
     }
 }
@@ -183,10 +183,10 @@ fn write_reason<W: fmt::Write>(
         before_last: " or ",
     };
     match reason.fault {
-        Fault::ByteOrderMark => write!(f, "a byte order mark stands before the first word"),
+        Fault::ByteOrderMark => write!(f, "the line begins with a byte order mark"),
         Fault::NoPeer => write!(
             f,
-            "2: is for a second controller, and there is none (--peer SITE)"
+            "2: is for a second controller, but there is none (--peer SITE)"
         ),
         Fault::Keyword => write!(
             f,
@@ -196,8 +196,8 @@ fn write_reason<W: fmt::Write>(
             f,
             "a line begins with {inputs}, sim, {settings}, or with #{other_line}, found {more}"
         ),
-        Fault::PeerKeyword => { write!(f, "behind 2: stands {inputs}, {settings}, found {found}") }
-        Fault::PeerSim => write!(f, "sim is for both controllers, and stands without 2:"),
+        Fault::PeerKeyword => { write!(f, "2: is followed by {inputs}, {settings}, found {found}") }
+        Fault::PeerSim => write!(f, "sim is for both controllers, and is written without 2:"),
         Fault::Word(slot) => write!(
             f,
             "{} is {}{}, found {found}{}",
@@ -212,7 +212,7 @@ fn write_reason<W: fmt::Write>(
         Fault::OnAbis => write_message_fault(f, abis_fault(word)),
         Fault::OnA => write_message_fault(f, a_fault(word)),
         Fault::Missing(slot, form) => write!(f, "{} is missing in {form}", slot.name()),
-        Fault::Behind(form) => write!(f, "nothing stands behind {form}, found {more}"),
+        Fault::Behind(form) => write!(f, "nothing may follow {form}, found {more}"),
         Fault::NoSim(form) => write!(f, "{form} needs a line sim before it"),
     }
 }
@@ -223,7 +223,7 @@ impl fmt::Display for Reason<'_> {
     }
 }
 
-/// Why a line can't be read that comes alone, where one may ask for a summary.
+/// Why a line that comes by itself can't be read. Such a line may be `summary`.
 #[derive(Clone, Copy, Debug, PartialEq, Eq)]
 pub struct LoneReason<'a>(pub Reason<'a>);
 

@@ -34,7 +34,7 @@ impl fmt::Display for Identity {
     }
 }
 
-/// What identifies a cell, own or outside; `None` where there is no such cell.
+/// What identifies a cell, own or outside; `None` if there is no such cell.
 fn identity_of<A: Allocator + Copy>(site: &Site<A>, cell: u8) -> Option<Identity> {
     Some(Identity {
         lac: site.lac(cell)?,

@@ -9,7 +9,7 @@ use std::alloc::Allocator;
 use std::fmt;
 use std::io::{self, Write};
 
-/// The own cell of a peer that has the location area code and the cell identity of an outside cell; `None` where the peer has
+/// The own cell of a peer that has the location area code and the cell identity of an outside cell; `None` if the peer has
 /// no such cell.
 fn cell_at_peer<A: Allocator + Copy>(site: &Site<A>, outside: u8, peer: &Site<A>) -> Option<u8>
     ensures { (cell : ℕ) → (result ≡ Some cell) ↔ IsCellAtPeer site.now outside peer.now cell }
@@ -54,7 +54,7 @@ impl fmt::Display for Colour {
     }
 }
 
-/// The colour codes of a cell; `None` where there is no such cell.
+/// The colour codes of a cell; `None` if there is no such cell.
 fn colour_of<A: Allocator + Copy>(site: &Site<A>, cell: u8) -> Option<Colour> {
     Some(Colour {
         ncc: site.ncc(cell)?,
@@ -76,7 +76,7 @@ fn warn_of_carrier<A: Allocator + Copy, W: Write>(
     if let (Some(carrier), Some(other)) = (site.bcch(outside), peer.bcch(cell)) {
         writeln!(
             out,
-            "warning: outside {outside}: bcch: {carrier}, and the peer's cell {cell} has {other}"
+            "warning: outside {outside}: bcch: {carrier}, but the peer's cell {cell} has {other}"
         )?;
     }
     Ok(())
@@ -96,7 +96,7 @@ fn warn_of_colour<A: Allocator + Copy, W: Write>(
     if let (Some(colour), Some(other)) = (colour_of(site, outside), colour_of(peer, cell)) {
         writeln!(
             out,
-            "warning: outside {outside}: bsic: {colour}, and the peer's cell {cell} has {other}"
+            "warning: outside {outside}: bsic: {colour}, but the peer's cell {cell} has {other}"
         )?;
     }
     Ok(())

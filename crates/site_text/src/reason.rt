@@ -109,7 +109,7 @@ impl fmt::Display for Wanted {
                 )
             }
             Key::Tch => write!(f, "an array of timeslots from {least} to {most}"),
-            Key::Half => write!(f, "an array of timeslots that stand in tch"),
+            Key::Half => write!(f, "an array of timeslots that are in tch too"),
             Key::Window
             | Key::Margin
             | Key::Minimum
@@ -311,7 +311,7 @@ fn say_halves<W: Write>(trx: &Value, list: &[Value], errors: &mut W) -> Result<(
             return Ok(());
         }
         if !stands_in(entry, slots) {
-            writeln!(errors, "{} isn't one of the timeslots at tch", Said(entry))?;
+            writeln!(errors, "{} isn't one of the timeslots in tch", Said(entry))?;
             return Ok(());
         }
     }
@@ -322,7 +322,11 @@ fn say_halves<W: Write>(trx: &Value, list: &[Value], errors: &mut W) -> Result<(
 fn say_array<W: Write>(list: &[Value], wanted: Wanted, errors: &mut W) -> Result<(), PrintFault> {
     let numbers = numbers_of(wanted.key, wanted.bcch);
     if !are_few(wanted.key, list, &numbers) {
-        writeln!(errors, "an array of {} entries isn't {wanted}", list.len())?;
+        writeln!(
+            errors,
+            "it has {} entries, but has to be {wanted}",
+            list.len()
+        )?;
         return Ok(());
     }
     if is_tables(wanted.key) {
@@ -407,7 +411,7 @@ fn say_alike<W: Write>(
         if let Some(first) = first_like(document, cell.table, place, keys) {
             writeln!(
                 errors,
-                "{} and {} have the same {names}, which no two cells may have",
+                "{} and {} have the same {names}, but no two cells may",
                 first.place, cell.place
             )?;
             return Ok(());
@@ -444,7 +448,7 @@ fn say_slot<W: Write>(cell: &Value, number: usize, errors: &mut W) -> Result<boo
         if let Some((key, slot)) = repeated_slot(table) {
             writeln!(
                 errors,
-                "cell {number}, trx {trx}: {key}: {slot} stands twice, where it may stand once"
+                "cell {number}, trx {trx}: {key}: {slot} is listed twice"
             )?;
             return Ok(true);
         }
@@ -463,10 +467,7 @@ fn say_repeated<W: Write>(
         What::Slot => return say_slot(cell, number, errors),
         What::Neighbour => {
             if let Some(carrier) = repeated(entries(cell, Key::Ba)) {
-                writeln!(
-                    errors,
-                    "cell {number}: ba: {carrier} stands twice, where it may stand once"
-                )?;
+                writeln!(errors, "cell {number}: ba: {carrier} is listed twice")?;
                 return Ok(true);
             }
         }
@@ -474,7 +475,7 @@ fn say_repeated<W: Write>(
             if let Some(carrier) = repeated_carrier(entries(cell, Key::Trx)) {
                 writeln!(
                     errors,
-                    "cell {number}: arfcn {carrier} stands in two trx, where each has its own"
+                    "cell {number}: two trx have arfcn {carrier}, but each needs its own"
                 )?;
                 return Ok(true);
             }
@@ -588,7 +589,7 @@ fn say_fault<W: Write>(
         SiteFault::NoTraffic(cell) => {
             writeln!(
                 errors,
-                "cell {cell}: no trx has a timeslot at tch, where at least one is wanted"
+                "cell {cell}: no trx has a timeslot in tch, but at least one is needed"
             )?;
             Ok(())
         }
@@ -596,9 +597,9 @@ fn say_fault<W: Write>(
     }
 }
 
-/// Says in one line why the text of a site file gives no site: the file, where in it, and what is allowed there.
-/// Nothing is said of a text that gives one, nor where memory is refused, which is answered by `NoMemory`. The answer is
-/// whether something was said.
+/// Says in one line why the text of a site file gives no site: the file, where in it, and what is allowed there. Nothing is
+/// said of a text that gives one, nor if memory is refused, which is answered by `NoMemory`. The answer is whether something
+/// was said.
 pub fn say_reason<W: Write>(
     alloc: Global,
     path: &str,

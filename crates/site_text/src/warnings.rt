@@ -135,7 +135,7 @@ fn warn_of_neighbours<A: Allocator + Copy, W: Write>(
         if is_one_sided(site, cell, other) {
             writeln!(
                 out,
-                "warning: cell {other} is a neighbour of cell {cell}, but cell {cell} is none of cell {other}"
+                "warning: cell {other} is a neighbour of cell {cell}, but cell {cell} isn't one of cell {other}"
             )?;
         }
     }

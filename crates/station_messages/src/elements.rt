@@ -1,4 +1,4 @@
-//! The elements of each message: how they are read, and beside it how they are written.
+//! The elements of each message: how they are read, and how they are written.
 ghost use Rattle.std.specs.Prelude.{◌≡◌, ◌/◌, ◌%◌, ◌<◌, length};
 ghost use Rattle.octet_elements.specs.ChannelTypes.{sub_of};
 ghost use Rattle.octet_elements.specs.Elements.{all_octets};
@@ -65,7 +65,7 @@ pub fn read_elements(kind: MessageKind, found: &Found<'_, Abis>) -> Result<Stati
     }
 }
 
-/// Appends the elements of a message, for which the list has room.
+/// Appends the elements of a message. The list has room for them.
 pub fn append_elements<A: Allocator>(message: StationMessage, out: &mut Vec<u8, A>)
     requires channel { (channel_of message).tn < 8 }
     requires room { HasRoom (all_octets abis (elements_of message)) out.old }
@@ -82,7 +82,7 @@ pub fn append_elements<A: Allocator>(message: StationMessage, out: &mut Vec<u8, 
     }
 }
 
-/// How many octets the elements of a message take.
+/// The number of octets of a message's elements.
 pub fn elements_len(message: StationMessage) -> usize
     ensures { result ≡ length (all_octets abis (elements_of message)) }
 {

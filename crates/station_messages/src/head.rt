@@ -1,4 +1,4 @@
-//! Which message of a station it is, and which channel it is about.
+//! The head of a station's message: which message it is, and which channel it is about.
 ghost use Rattle.std.specs.Prelude.{◌≡◌, ◌∷◌, ◌≤◌, length, Ok, IfOk, IfErr, IfSome, IfNone};
 ghost use Rattle.octet_elements.specs.Lookup.{lookup};
 ghost use Rattle.octet_elements.specs.Texts.{Answers, Says, HasBodyFault, Decodes, IsTextOf, HasFault};
@@ -37,14 +37,15 @@ pub enum MessageType {
     ListenerDetection,
 }
 
-/// Which message octets are, the channel that they name, and what of them says whom they are for, whatever else they hold.
+/// The head of a message: its type, its channel, and what shows for whom it is, whatever else it contains.
 #[derive(Clone, Copy, Debug, PartialEq, Eq)]
 pub struct Head {
     pub message: MessageType,
     pub channel: ChanBits,
-    /// The link identifier, where it has one (clause 9.3.2); 0 is the main signalling channel with SAPI 0.
+    /// The link identifier, if it has one (clause 9.3.2); 0 is the main signalling channel with SAPI 0.
     pub link: Option<u8>,
-    /// The type of the radio resource message inside (TS 44.018 clause 10.4), where its L3 information begins as such a message.
+    /// The type of the radio resource message inside (TS 44.018 clause 10.4), if its L3 information begins like such a
+    /// message.
     pub rr_type: Option<u8>,
 }
 
@@ -86,7 +87,7 @@ fn type_for(discriminator: u8, message_type: u8) -> Option<MessageType>
     }
 }
 
-/// Discriminator and type, and the elements behind them.
+/// Discriminator and type, and the elements after them.
 pub fn split(octets: &[u8]) -> Result<(u8, u8, &[u8]), RslFault>
     ensures short { IfOk result (λ s. length octets.now ≤ limit) }
     ensures octets { IfOk result (λ s. octets.now ≡ s.0 ∷ s.1 ∷ s.2.now) }
@@ -171,9 +172,9 @@ fn read(octets: &[u8]) -> Result<Head, RslFault>
     read_body(message, body)
 }
 
-/// Which message of a station octets are, the channel that they name (TS 48.058 clause 9.3.1), and what of them says whom they are
-/// for. Elements may stand in any order; they are whole, and what others than these hold isn't looked at. An `Err` is the first fault in the order that
-/// [`RslFault`] says; it is `NotRsl` for all that isn't about a channel. It takes no memory.
+/// The head of a station's message: its type, the channel that it names (TS 48.058 clause 9.3.1), and what shows for whom it
+/// is. Elements may come in any order. They have to be whole; the contents of other elements aren't looked at. An `Err` is
+/// the first fault in the order of [`RslFault`]; it is `NotRsl` for all that isn't about a channel. It takes no memory.
 pub fn read_head(octets: &[u8]) -> Result<Head, RslFault>
     ensures decodes { Decodes head_codec octets.now result }
 {

@@ -3,7 +3,7 @@ ghost use Rattle.octet_elements.specs.Texts.{ReadingIsUnique};
 ghost use Rattle.station_messages.specs.Types.{head_codec};
 ghost use Rattle.station_messages.specs.Texts.{codec, CanonicalIsText};
 
-/// Octets have one head, or one fault in it.
+/// Octets have either one head or one fault in it.
 pub fn heads_are_unique()
     ensures unique { ReadingIsUnique head_codec }
 {}
@@ -13,8 +13,8 @@ pub fn reading_is_unique()
     ensures unique { ReadingIsUnique codec }
 {}
 
-/// The canonical text of a message is a text of it, so reading what was written gives the message, just where its timeslot is
-/// one, 0 to 7.
+/// The canonical text of a message is a text of it, so reading what was written gives the message, exactly if its timeslot
+/// is 0 to 7.
 pub fn canonical_is_text()
     ensures text { CanonicalIsText }
 {}

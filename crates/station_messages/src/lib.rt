@@ -1,7 +1,8 @@
 //! Messages between a base station controller and a base station, on Abis (TS 48.058), beyond those of `rsl_messages`.
 //!
-//! [`read_head`] says which message of a station octets are, and which channel it is about, also of a message that nothing else
-//! here reads. [`decode`] reads a [`StationMessage`], [`encode_into`] writes one. Elements and faults are those of `rsl_messages`.
+//! [`read_head`] says which message of a station octets are, and which channel it is about, even if nothing else here reads
+//! the message. [`decode`] reads a [`StationMessage`], [`encode_into`] writes one. Elements and faults are those of
+//! `rsl_messages`.
 #![tactic(auto)]
 
 mod elements;

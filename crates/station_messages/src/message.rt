@@ -1,7 +1,7 @@
 //! The messages.
 use rsl_messages::ChanBits;
 
-/// A message about a channel that `rsl_messages` doesn't have.
+/// A message about a channel that isn't in `rsl_messages`.
 #[derive(Clone, Copy, Debug, PartialEq, Eq)]
 pub enum StationMessage {
     /// RELEASE INDICATION, TS 48.058 clause 8.3.9: the mobile has ended a link.

@@ -64,8 +64,8 @@ fn read(octets: &[u8]) -> Result<StationMessage, RslFault>
 
 /// Reads a message.
 ///
-/// The elements may stand in any order. A repeated one is taken at its first place, and one that the message has no use for is
-/// passed over. An `Err` is the first fault in the order that [`RslFault`] says. It takes no memory.
+/// The elements may come in any order. If one is repeated, the first counts; elements that the message doesn't use are
+/// skipped. An `Err` is the first fault in the order of [`RslFault`]. It takes no memory.
 pub fn decode(octets: &[u8]) -> Result<StationMessage, RslFault>
     ensures decodes { Decodes codec octets.now result }
 {

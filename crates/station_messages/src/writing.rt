@@ -19,7 +19,7 @@ fn head_octets(message: StationMessage) -> [u8; 2]
     }
 }
 
-/// Whether the message has a canonical text: its timeslot is one.
+/// Whether the message has a canonical text: its timeslot is 0 to 7.
 #[tactic(auto, using(crate::proofs::Written::canonical_of, crate::proofs::Written::writable_of))]
 pub fn fits(message: StationMessage) -> bool
     ensures canonical { IsTrue result ↔ HasCanonical message }
@@ -30,7 +30,7 @@ pub fn fits(message: StationMessage) -> bool
     }
 }
 
-/// Appends the canonical text of a message. A list with room for it is not moved: no memory is asked for.
+/// Appends the canonical text of a message. If the list has room for it, no memory is asked for, and the list isn't moved.
 #[tactic(auto, using(crate::proofs::Written::writable_of))]
 pub fn encode_into<A: Allocator>(
     message: StationMessage,

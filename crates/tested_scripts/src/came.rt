@@ -1,4 +1,4 @@
-//! What came of a part of a script, line by line.
+//! The lines that came of a part of a script.
 ghost use Rattle.std.specs.Prelude.{◌≡◌, ◌++◌, ◌∷◌, [], zip, IfOk, OnOk};
 ghost use Rattle.tested_scripts.specs.Lines as expected;
 ghost use Rattle.tested_scripts.specs.Meeting.{said_of};

@@ -1,4 +1,4 @@
-//! Where lines that came differ from those that are expected.
+//! The first difference between lines that came and lines that are expected.
 ghost use Rattle.std.specs.Prelude.{◌≡◌, ◌↔◌, ◌⊎◌, ◌≤◌, ◌∷◌, ◌++◌, ℕ, [], true, false, None, Some, IfOk, OnOk, IfSome, All, Contains, filter_map, length, slice_get, ◌<◌};
 ghost use Rattle.tested_scripts.specs.Lines.{texts_of, expected_in, is_any};
 ghost use Rattle.tested_scripts.specs.Meeting as said;
@@ -12,18 +12,18 @@ use std::alloc::{AllocError, Allocator};
 pub struct CameLine<'a> {
     /// The line of the trace.
     pub text: &'a str,
-    /// The line in words, where it is a message; else nothing.
+    /// The line in words if it is a message; else an empty text.
     pub words: &'a str,
 }
 
-/// The first difference between the lines of a script that stand behind one that gives something, and the trace lines that
-/// came of that.
+/// The first difference between the comments after a line of a script that gives something, and the trace lines that came of
+/// that line.
 #[derive(Clone, Copy, Debug, PartialEq, Eq)]
 pub struct Difference {
-    /// The place of the script's line whose expectation wasn't met; behind all where all were met and more came.
+    /// The place of the comment that wasn't met. If all were met but more came, it is the place after the last.
     pub line: usize,
-    /// Up to this place, and to none further behind, those that came met what was expected before; it is behind all where
-    /// nothing more came.
+    /// The lines that came before this place, and no more, met what was expected before. If nothing more came, it is the
+    /// place after the last.
     pub came: usize,
 }
 
@@ -274,9 +274,9 @@ fn expect_any(lines: &[&str]) -> bool
     lines.iter().any(|line| is_expectation(*line))
 }
 
-/// Where trace lines differ first from those that are expected: `lines` are those of a script that stand behind one that
-/// gives something, up to the next, and `came` is what came of that. `None` where all that is expected came, in this
-/// order, and nothing else; and where nothing is expected.
+/// The first place where trace lines differ from those that are expected. `lines` are the lines of a script after one that
+/// gives something, up to the next such line; `came` is what came of it. `None` if all that is expected came, in this order,
+/// and nothing else; also if nothing is expected.
 pub fn find_difference<A: Allocator + Copy>(
     alloc: A,
     lines: &[&str],
@@ -292,8 +292,8 @@ pub fn find_difference<A: Allocator + Copy>(
     }
 }
 
-/// The first difference of the last line of a script that gives something: `ended` is what came of it, with the lines behind that
-/// with which the trace ends, which may be expected, or may not.
+/// The first difference for the last line of a script that gives something. `ended` is what came of it, followed by the
+/// lines of the trace's end, which may be expected or not.
 pub fn find_last_difference<A: Allocator + Copy>(
     alloc: A,
     lines: &[&str],

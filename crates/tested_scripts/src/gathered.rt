@@ -1,6 +1,6 @@
-//! What comes of the lines of a script, gathered as text.
+//! Gathers as text what comes of the lines of a script.
 //!
-//! No clause says what is printed: that is shown by tests.
+//! No clause says what is printed: tests show it.
 use crate::heard::Came;
 use cell_table::{Site, SiteFault};
 use exchange::{Inbound, Outbound};

@@ -1,4 +1,4 @@
-//! A run of which each line of a script is told what came of it.
+//! A run that gathers, for each line of its script, what came of it.
 ghost use Rattle.std.specs.Prelude.{◌≡◌, [], ◌∷◌, Bool, true, is_some, length, IfOk, OnOk};
 ghost use Rattle.lab_script.specs.Script.{AreThere, is_item_there};
 ghost use Rattle.lab_runs.specs.Course.{Played, Follows, has_peer};

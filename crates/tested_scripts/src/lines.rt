@@ -1,4 +1,4 @@
-//! What the lines of a script are to a test of it.
+//! The kinds of lines of a script, for a test.
 ghost use Rattle.std.specs.Prelude.{◌≡◌, IfOk, option_map, is_some};
 ghost use Rattle.std.specs.List.{position_or_len};
 ghost use Rattle.lab_script.specs.Script as script;
@@ -19,7 +19,7 @@ pub fn lines_of<'a, A: Allocator>(alloc: A, text: &'a str) -> Result<Vec<&'a str
     Ok(lines)
 }
 
-/// Whether a line gives something, if it can be read: it is no comment, and not blank.
+/// Whether a line gives something, if it can be read: it is neither a comment nor blank.
 pub fn is_script_line(line: &str) -> bool
     ensures script { result ≡ said.is_script_line line.now }
 {
@@ -33,7 +33,7 @@ fn without_blank(text: &str) -> &str
     text.strip_prefix(" ").unwrap_or(text)
 }
 
-/// The trace line that a line expects: what stands behind `#>` and one blank. `None` where it begins otherwise.
+/// The trace line that a line expects: the text after `#>` and one blank. `None` if it doesn't begin like this.
 pub fn expected_in(line: &str) -> Option<&str>
     ensures expected { option_map (λ text. text.now) result ≡ said.expected_in line.now }
 {
@@ -62,14 +62,14 @@ pub(crate) fn is_input(line: &str) -> bool
     without_mark(line).starts_with("in ")
 }
 
-/// Whether what is expected stands for any lines, or none.
+/// Whether an expectation means any lines, or none.
 pub fn is_any(expected: &str) -> bool
     ensures any { result ≡ said.is_any expected.now }
 {
     expected == ".."
 }
 
-/// How many lines stand before the next that gives something.
+/// How many lines come before the next one that gives something.
 pub fn part_end(lines: &[&str]) -> usize
     ensures end { result ≡ position_or_len said.is_script_line (said.texts_of lines.now) }
 {

@@ -1,4 +1,4 @@
-//! Which lines of a part of a script aren't met, beside those that expect lines one by one.
+//! The comments of a part of a script that aren't met, other than those that expect lines one by one.
 ghost use Rattle.std.specs.Prelude.{◌≡◌};
 ghost use Rattle.std.specs.List.{list_any};
 ghost use Rattle.tested_scripts.specs.Lines.{texts_of};
@@ -9,11 +9,11 @@ ghost use Rattle.tested_scripts.specs.Tests as tests;
 use crate::came::printed_lines;
 use crate::compare::CameLine;
 use crate::nearest::shown;
-use crate::printed::{Miss, print_reason};
+use crate::printed::Miss;
+use crate::reasons::Reasons;
 use expectations::{Answered, answer_to, held_in, is_answered, is_refused_by, refused_in};
 use run_listeners::LabFault;
 use std::alloc::Allocator;
-use std::io::Write;
 
 /// Whether a line that came is refused by a text.
 fn is_refused(line: &CameLine<'_>, text: &str) -> bool
@@ -46,10 +46,10 @@ pub(crate) fn has_broken(part: &[&str], came: &[CameLine<'_>]) -> bool
     part.iter().any(|line| is_broken(*line, came))
 }
 
-/// Prints each line of a part that says so, with the first line that is so. The part begins behind so many lines of the
+/// Tells each line of a part that says so, with the first line that is so. The part begins behind so many lines of the
 /// script.
-pub(crate) fn print_broken<W: Write>(
-    out: &mut W,
+pub(crate) fn tell_broken<A: Allocator + Copy>(
+    reasons: &mut Reasons<A>,
     before: usize,
     part: &[&str],
     came: &[CameLine<'_>],
@@ -61,14 +61,11 @@ pub(crate) fn print_broken<W: Write>(
             && let Some(found) = came.iter().find(|found| is_refused(*found, refused))
         {
             let came = shown(*found, Some(refused));
-            print_reason(
-                out,
-                Miss::Begins {
-                    line: number,
-                    refused,
-                    came,
-                },
-            )?;
+            reasons.tell(Miss::Begins {
+                line: number,
+                refused,
+                came,
+            })?;
         }
     }
     Ok(())
@@ -113,10 +110,10 @@ pub(crate) fn holds_all<A: Allocator + Copy>(
     Ok(true)
 }
 
-/// Prints what a line expects of the books where they hold something else.
-fn print_unheld<A: Allocator + Copy, W: Write>(
+/// Tells what a line expects of the books where they hold something else.
+fn tell_unheld<A: Allocator + Copy>(
     alloc: A,
-    out: &mut W,
+    reasons: &mut Reasons<A>,
     number: usize,
     line: &str,
     held: &[&str],
@@ -129,13 +126,13 @@ fn print_unheld<A: Allocator + Copy, W: Write>(
         expected: held_in(line).unwrap_or(""),
         held: &answer,
     };
-    Ok(print_reason(out, miss)?)
+    reasons.tell(miss)
 }
 
-/// Prints each line of a part that expects something else of the books than they hold.
-pub(crate) fn print_all_unheld<A: Allocator + Copy, W: Write>(
+/// Tells each line of a part that expects something else of the books than they hold.
+pub(crate) fn tell_all_unheld<A: Allocator + Copy>(
     alloc: A,
-    out: &mut W,
+    reasons: &mut Reasons<A>,
     before: usize,
     part: &[&str],
     held: &str,
@@ -144,7 +141,7 @@ pub(crate) fn print_all_unheld<A: Allocator + Copy, W: Write>(
     let mut number = before;
     for line in part {
         number = number.saturating_add(1);
-        print_unheld(alloc, out, number, *line, &held)?;
+        tell_unheld(alloc, reasons, number, *line, &held)?;
     }
     Ok(())
 }

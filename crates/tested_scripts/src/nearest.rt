@@ -1,18 +1,18 @@
-//! What came, as it is shown beside what is expected; and the line that came nearest to one that is.
+//! How lines that came are shown beside an expectation; and which of them is nearest to it.
 //!
-//! No clause says which: nothing but lines for a person hang on it.
+//! No clause says which is nearest: only lines for a person depend on it.
 use crate::compare::CameLine;
 use crate::never_messages::is_in_octets;
 use expectations::without_mark;
 
-/// The line that came nearest to one that is expected.
+/// The line that came and is nearest to an expected line.
 #[derive(Clone, Copy, Debug, PartialEq, Eq)]
 pub struct Nearest<'c, 'e> {
     /// The line, as it is shown.
     pub came: &'c str,
-    /// The first word that is expected and isn't among its words.
+    /// The first expected word that it lacks.
     pub expected: &'e str,
-    /// What it has in place of that: the same field, or the word in the same place; nothing where it has none.
+    /// What it has instead of this word: the same field, or the word in the same place; nothing if it has neither.
     pub found: Option<&'c str>,
 }
 
@@ -135,7 +135,7 @@ fn nearest_line<'c, 'e>(came: &'c str, expected: &'e str) -> Nearest<'c, 'e> {
     }
 }
 
-/// The line of these that is nearest to one that is expected; nothing where none is of its kind.
+/// The line of these that is nearest to one that is expected; nothing if none is of its kind.
 pub(crate) fn nearest_to<'c, 'e>(
     came: &[CameLine<'c>],
     expected: &'e str,

@@ -1,7 +1,7 @@
-//! Expectations that nothing can meet, or miss: lines of a script that say that a line comes, or that none begins so, where none ever
-//! can be so.
+//! Expectations that can't be met, or that are always met: comments that say that a line comes, or that no line begins like
+//! this, if no such line can come.
 //!
-//! No clause says which they are: that is shown by tests.
+//! No clause says which they are: tests show it.
 use crate::lines::{expected_in, is_any, is_script_line};
 use crate::never_messages::why_no_message;
 use cell_table::Site;
@@ -13,40 +13,40 @@ use lab_script::script::{cut_side, without_return};
 use std::alloc::{AllocError, Allocator, Global};
 use std::fmt;
 
-/// Why no line that comes can be as a text says.
+/// Why no line that comes can be like a text.
 #[derive(Clone, Copy, Debug, PartialEq, Eq)]
 pub enum Never<'a> {
-    /// The mark of a controller begins it, and there is one alone.
+    /// It begins with a controller's mark, but there is only one controller.
     Marked,
-    /// No mark of a controller begins it, and there are two.
+    /// It doesn't begin with a controller's mark, but there are two controllers.
     Unmarked,
-    /// No line of a trace begins so.
+    /// No line of a trace begins like this.
     Beginning,
-    /// No line of a trace is so.
+    /// No line of a trace is like this.
     Line,
-    /// Its octets have digits that a trace has in small letters.
+    /// Its octets have capital digits. A trace writes them in small letters.
     Capitals,
-    /// Its octets have a digit too much.
+    /// Its octets have one digit too many.
     Halved,
-    /// The site has no such cell, or no such carrier in that.
+    /// The site has no such cell, or the cell no such carrier.
     NoPlace,
-    /// No message is so in words.
+    /// No message is like this in words.
     Message(MessageFault<'a>),
     /// Controllers send no message of this name.
     Unsent(&'a str),
-    /// In words no blank stands behind a semicolon.
+    /// In words a semicolon isn't followed by a blank.
     Glued,
-    /// Behind a semicolon stands nothing.
+    /// A semicolon isn't followed by anything.
     Nothing,
-    /// Behind such a message stands nothing like it.
+    /// Nothing like this ever follows such a message.
     Behind,
-    /// That an input is ignored is said by the words of a run, and isn't looked at.
+    /// It says that an input is ignored. Only `run --words` says this; a test doesn't look at it.
     Ignored,
-    /// No line of the script stands before it of which anything could come.
+    /// There is no script line before it that could give anything.
     First,
-    /// Of the line before it nothing comes.
+    /// The line before it gives nothing.
     Silent,
-    /// It is the trace's end, and not the last line of the script stands before it.
+    /// It is the trace's end, but the line before it isn't the script's last.
     End,
     /// No simulators are attached before it.
     NoSimulators,
@@ -55,38 +55,38 @@ pub enum Never<'a> {
 impl fmt::Display for Never<'_> {
     fn fmt<W: fmt::Write>(&self, f: &mut fmt::Formatter<W>) -> fmt::Result {
         let why = match self {
-            Never::Marked => "no such controller: one alone has no mark",
-            Never::Unmarked => "no mark: 1: or 2: stands before it",
-            Never::Beginning => "no line of a trace begins so",
-            Never::Line => "no line of a trace is so",
-            Never::Capitals => "a trace has octets in small letters",
+            Never::Marked => "there is only one controller: its lines have no mark",
+            Never::Unmarked => "with two controllers it has to begin with 1: or 2:",
+            Never::Beginning => "no line of a trace begins like this",
+            Never::Line => "no line of a trace is like this",
+            Never::Capitals => "a trace writes octets in small letters",
             Never::Halved => "an octet has two digits",
             Never::NoPlace => "the site has no such cell or carrier",
             Never::Message(fault) => return write!(f, "{fault}"),
-            Never::Unsent(name) => return write!(f, "controllers send no \"{name}\""),
-            Never::Glued => "a blank stands behind ;",
-            Never::Nothing => "nothing stands behind ;",
-            Never::Behind => "such a message has nothing like it behind it",
-            Never::Ignored => "what is ignored is said by --words alone",
-            Never::First => "no line stands before it",
-            Never::Silent => "nothing ever comes of the line before it",
-            Never::End => "the trace's end comes behind the last line alone",
-            Never::NoSimulators => "no line sim stands before it",
+            Never::Unsent(name) => return write!(f, "a controller never sends \"{name}\""),
+            Never::Glued => "a blank has to follow ;",
+            Never::Nothing => "something has to follow ;",
+            Never::Behind => "no such part ever follows this message",
+            Never::Ignored => "only --words says what is ignored",
+            Never::First => "no script line comes before it",
+            Never::Silent => "the line before it never gives anything",
+            Never::End => "the trace's end comes only after the last line",
+            Never::NoSimulators => "no line sim comes before it",
         };
         f.write_str(why)
     }
 }
 
-/// What a line of a script says of a text.
+/// What a comment says about a text.
 #[derive(Clone, Copy, Debug, PartialEq, Eq)]
 pub enum Told<'a> {
-    /// A line comes that is so.
+    /// A line comes that is like this.
     Expected(&'a str),
-    /// No line that comes begins so.
+    /// No line that comes begins like this.
     Refused(&'a str),
 }
 
-/// A line of a script that says that a line comes, or that none does, where none ever can be so.
+/// A comment that says that a line comes, or that none does, if no such line can come.
 #[derive(Clone, Copy, Debug, PartialEq, Eq)]
 pub struct NeverLine<'a> {
     /// Its number, counted from 1.
@@ -301,7 +301,7 @@ fn no_line(extent: Extent) -> Never<'static> {
     }
 }
 
-/// Why no line that comes of one controller, or of two, can be as a text says; nothing where one can.
+/// Why no line that comes of one controller, or of two, can be as a text says; nothing if one can.
 fn why_never<'a, A: Allocator + Copy>(
     alloc: A,
     text: &'a str,
@@ -352,6 +352,8 @@ fn is_silent(line: &str) -> bool {
             | Form::Abis
             | Form::A
             | Form::Let
+            | Form::Restart
+            | Form::RestartTrx
             | Form::HangUp
             | Form::Report
             | Form::Answer,
@@ -410,7 +412,8 @@ fn why_never_behind<'a, A: Allocator + Copy>(
     }
 }
 
-/// What a line of a script says of a text, and how much of a line that is; nothing where it says nothing, or stands for any lines.
+/// What a line of a script says of a text, and how much of a line that is; nothing if it says nothing, or stands for any
+/// lines.
 fn told_in(line: &str) -> Option<(Told<'_>, &str, Extent)> {
     if let Some(refused) = refused_in(line) {
         return Some((Told::Refused(refused), refused, Extent::Beginning));
@@ -423,8 +426,8 @@ fn told_in(line: &str) -> Option<(Told<'_>, &str, Extent)> {
     }
 }
 
-/// The lines of a script over these sites that say that a line comes, or that none begins so, where none ever can be so: so nothing
-/// could meet them, or miss them. Each has its reason.
+/// The comments of a script over these sites that say that a line comes, or that no line begins like this, if no such line
+/// can come: they can't be met, or are always met. Each has its reason.
 pub fn never_lines<'a, A: Allocator + Copy>(
     alloc: A,
     script: &'a str,

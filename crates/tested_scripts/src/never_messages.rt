@@ -381,7 +381,7 @@ fn message_in(line: &str) -> Option<(LinkName, &str)> {
     }
 }
 
-/// Which way the message of a line goes; nothing where it is none.
+/// Which way the message of a line goes; nothing if it is none.
 fn way_of(line: &str) -> Option<Way> {
     match line.split_once(' ')? {
         ("in", _) => Some(Way::In),
@@ -422,8 +422,8 @@ fn why_not_said<'a, A: Allocator + Copy>(
     }
 }
 
-/// Why no line can have the message of this one, which begins as one of a trace does, without its mark; nothing where none stands
-/// there yet, or such a message can come. Where it may be cut it ends behind a word, or between octets.
+/// Why no line can have the message of this one, which begins as one of a trace does, without its mark; nothing if none
+/// stands there yet, or such a message can come. Where it may be cut it ends behind a word, or between octets.
 pub(crate) fn why_no_message<'a, A: Allocator + Copy>(
     alloc: A,
     line: &'a str,

@@ -94,7 +94,7 @@ fn has_octets(allowed: Allowed) -> bool {
     }
 }
 
-/// Why no field is printed with this value; nothing where one may be. Of octets it may have the first alone.
+/// Why no field is printed with this value; nothing if one may be. Of octets it may have the first alone.
 pub(crate) fn value_fault<'a>(field: FieldForm<'static>, value: &'a str) -> Option<Never<'a>> {
     let FieldForm(key, allowed) = field;
     if value == "*" {

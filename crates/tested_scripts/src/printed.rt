@@ -1,13 +1,13 @@
-//! What is printed of tests, which is TAP, and of a record.
+//! Prints tests, as TAP, and records.
 //!
-//! No clause says what is printed: that is shown by tests.
+//! No clause says what is printed: tests show it.
 use crate::compare::CameLine;
 use crate::nearest::Nearest;
 use screen_text::{Escaped, end_of};
 use std::fmt;
 use std::io::{self, Write};
 
-/// The name of a test: as [`Escaped`], and each `\` and `#` with a `\` before it, so that none begins a directive.
+/// The name of a test, as [`Escaped`], with a `\` before each `\` and `#`, so that none begins a directive.
 #[derive(Clone, Copy)]
 pub struct TestName<'a>(pub &'a str);
 
@@ -27,13 +27,13 @@ impl fmt::Display for TestName<'_> {
 /// Why a test isn't met.
 #[derive(Clone, Copy, Debug, PartialEq, Eq)]
 pub enum Miss<'a> {
-    /// A line of the script, counted from 1, expects another trace line than came; nothing more, where one is `None`.
+    /// A line of the script, counted from 1, expects another trace line than came. `None` means nothing more.
     Differs {
         line: usize,
         expected: Option<&'a str>,
         came: Option<&'a str>,
     },
-    /// By a line of the script, counted from 1, no line begins with this text, and this one does.
+    /// A line of the script, counted from 1, says that no line begins with this text, but this one does.
     Begins {
         line: usize,
         refused: &'a str,
@@ -45,11 +45,11 @@ pub enum Miss<'a> {
         expected: &'a str,
         held: &'a str,
     },
-    /// The script says nothing of what comes.
+    /// The script expects nothing.
     Nothing,
-    /// A line of the script, counted from 1, looks like an expectation, and isn't one.
+    /// A line of the script, counted from 1, looks like an expectation, but isn't one.
     Slipped(usize),
-    /// A line of the script, counted from 1, asks something of a station or a mobile that comes to nothing.
+    /// A line of the script, counted from 1, has no effect.
     Idle(usize),
     /// A line of the script, counted from 1, can't be read.
     Unreadable(usize),
@@ -57,6 +57,21 @@ pub enum Miss<'a> {
     NoFile,
     /// The site that the script names can't be read, or its peer's.
     NoSite,
+}
+
+impl Miss<'_> {
+    /// The line of the script, counted from 1, that it is about; 0 where it is about the whole script.
+    pub(crate) fn line(&self) -> usize {
+        match *self {
+            Miss::Differs { line, .. } => line,
+            Miss::Begins { line, .. } => line,
+            Miss::Holds { line, .. } => line,
+            Miss::Slipped(line) => line,
+            Miss::Idle(line) => line,
+            Miss::Unreadable(line) => line,
+            Miss::Nothing | Miss::NoFile | Miss::NoSite => 0,
+        }
+    }
 }
 
 /// Prints how many tests there are.
@@ -109,7 +124,7 @@ pub(crate) fn print_missing<W: Write>(
         },
     ) = nearest
     else {
-        return writeln!(out, "# came none of its kind, {count} others");
+        return writeln!(out, "# came no line of its kind, and {count} others");
     };
     print_side(out, "came", Some(came))?;
     match found {
@@ -128,7 +143,7 @@ pub(crate) fn print_missing<W: Write>(
 }
 
 /// Prints why a test isn't met.
-pub fn print_reason<W: Write>(out: &mut W, miss: Miss<'_>) -> io::Result<()> {
+pub(crate) fn print_reason<W: Write>(out: &mut W, miss: Miss<'_>) -> io::Result<()> {
     match miss {
         Miss::Differs {
             line,
@@ -143,7 +158,12 @@ pub fn print_reason<W: Write>(out: &mut W, miss: Miss<'_>) -> io::Result<()> {
             line,
             refused,
             came,
-        } => print_against(out, line, ("expected none that begins with", refused), came),
+        } => print_against(
+            out,
+            line,
+            ("expected no line that begins with", refused),
+            came,
+        ),
         Miss::Holds {
             line,
             expected,
@@ -156,7 +176,7 @@ pub fn print_reason<W: Write>(out: &mut W, miss: Miss<'_>) -> io::Result<()> {
                 "# line {line} looks like an expectation, but isn't one"
             )
         }
-        Miss::Idle(line) => writeln!(out, "# line {line} comes to nothing"),
+        Miss::Idle(line) => writeln!(out, "# line {line} has no effect"),
         Miss::Unreadable(line) => writeln!(out, "# line {line} can't be read"),
         Miss::NoFile => writeln!(out, "# the file can't be read"),
         Miss::NoSite => writeln!(out, "# the site can't be read"),
@@ -179,12 +199,12 @@ pub fn print_miss<W: Write>(
     print_reason(out, miss)
 }
 
-/// What ends the lines of a text, by one of them that may have its carriage return.
+/// The end of a text's lines, taken from one of them, which may still have its carriage return.
 pub fn ending_of(line: &str) -> &'static str {
     if line.ends_with('\r') { "\r\n" } else { "\n" }
 }
 
-/// Prints lines that came as the comments that expect them: in words or as they stand in the trace.
+/// Prints lines that came as comments that expect them, in words or as in the trace.
 pub fn print_recorded<W: Write>(
     out: &mut W,
     came: &[CameLine<'_>],

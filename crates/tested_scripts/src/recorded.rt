@@ -1,4 +1,4 @@
-//! Scripts that are recorded: what comes of each line is written behind it, as comments that expect it.
+//! Records scripts: what comes of each line is written after it, as comments that expect it.
 ghost use Rattle.std.specs.Prelude.{◌≡◌, ◌≢◌, ◌⊎◌, Ok, Err, None, IsSome, IsSomeAnd, is_some, true};
 ghost use Rattle.cell_table.specs.SiteFile.{described_site, IsBlankFile};
 ghost use Rattle.lab_script.specs.Script.{first_unreadable, items_of};
@@ -25,6 +25,8 @@ struct Recorder<'a, W: Write, A: Allocator + Copy> {
     /// What stands before, between and behind the line feeds, each with the carriage return that may end it.
     lines: &'a [&'a str],
     place: usize,
+    /// Whether what comes is recorded behind the lines that are printed now.
+    is_taken: bool,
     /// What ends the line that gave something last.
     ending: &'static str,
     recording: Recording,
@@ -57,9 +59,28 @@ fn begin_otherwise(came: &[CameLine<'_>]) -> bool {
 }
 
 impl<W: Write, A: Allocator + Copy> Recorder<'_, W, A> {
+    /// The place of the next line that gives something, or the end.
+    fn next_place(&self) -> usize {
+        let left = self.lines.get(self.place..).unwrap_or(&[]);
+        let passed = left
+            .iter()
+            .position(|line| is_script_line(without_return(*line)));
+        self.place.saturating_add(passed.unwrap_or(left.len()))
+    }
+
+    /// Whether what comes is recorded behind the line before the place: where that, or a line behind it, is the one where it is to
+    /// be.
+    fn takes_place(&self) -> bool {
+        match self.recording.only {
+            Some(only) => self.place <= only && only <= self.next_place(),
+            None => true,
+        }
+    }
+
     /// Whether a line of the script is a comment that a recorded one takes the place of.
     fn is_replaced(&self, line: &str) -> bool {
-        expected_in(line).is_some() || (self.recording.states && held_in(line).is_some())
+        self.is_taken
+            && (expected_in(line).is_some() || (self.recording.states && held_in(line).is_some()))
     }
 
     /// Prints a line that gives nothing, the one before the place, unless it expects something. The script's last line has
@@ -75,15 +96,24 @@ impl<W: Write, A: Allocator + Copy> Recorder<'_, W, A> {
         Ok(())
     }
 
+    /// Prints the line that gives something, the one before the place.
+    fn print_giving(&mut self, line: &str) -> io::Result<()> {
+        self.ending = ending_of(line);
+        write!(self.out, "{line}")?;
+        // where what comes is recorded, comments follow: at least the trace's end
+        if self.place < self.lines.len() || self.takes_place() {
+            writeln!(self.out)?;
+        }
+        Ok(())
+    }
+
     /// Prints the lines from the place on, up to and with the next that gives something, without those that expect
     /// something.
     fn print_part(&mut self) -> io::Result<()> {
         for line in self.lines.get(self.place..).unwrap_or(&[]) {
             self.place = self.place.saturating_add(1);
             if is_script_line(without_return(*line)) {
-                self.ending = ending_of(*line);
-                // comments follow: at least the trace's end
-                return writeln!(self.out, "{line}");
+                return self.print_giving(*line);
             }
             self.print_passed(*line)?;
         }
@@ -92,9 +122,9 @@ impl<W: Write, A: Allocator + Copy> Recorder<'_, W, A> {
 
     /// Prints what came as comments.
     fn print_lines(&mut self, came: &[CameLine<'_>]) -> io::Result<()> {
-        let Recording { words, states: _ } = self.recording;
-        let came = if words { without_echo(came) } else { came };
-        print_recorded(self.out, came, words, self.ending)
+        let in_words = self.recording.words;
+        let came = if in_words { without_echo(came) } else { came };
+        print_recorded(self.out, came, in_words, self.ending)
     }
 
     /// Prints what the books hold as comments.
@@ -107,11 +137,14 @@ impl<W: Write, A: Allocator + Copy> Recorder<'_, W, A> {
         Ok(())
     }
 
-    /// Prints what came as comments, and the lines up to and with the next that gives something.
+    /// Prints what came as comments, where that is recorded, and the lines up to and with the next that gives something.
     fn print_came(&mut self, came: Came<'_>) -> Result<(), LabFault> {
-        let lines = came_lines(self.alloc, came.trace, came.words)?;
-        self.print_lines(&lines)?;
-        self.print_held(came.held)?;
+        self.is_taken = self.takes_place();
+        if self.is_taken {
+            let lines = came_lines(self.alloc, came.trace, came.words)?;
+            self.print_lines(&lines)?;
+            self.print_held(came.held)?;
+        }
         Ok(self.print_part()?)
     }
 }
@@ -161,6 +194,7 @@ fn record_script<A: Allocator + Copy, W: Write>(
         out,
         lines: &lines,
         place: 0,
+        is_taken: false,
         ending: "\n",
         recording,
     };
@@ -177,8 +211,8 @@ fn record_script<A: Allocator + Copy, W: Write>(
 /// the last one the trace's end, too. Comments that the script has of what is expected are left out; all else stays, also
 /// how each line ends: the last one gets a line feed, where it has none, if comments follow. Where messages are to stand in
 /// words, the echo of the script's line is left out; where what the books hold is to be told, it stands behind the lines, in
-/// place of what the script says of that. The answer is `Done` then.
-/// A site and a script are refused as by a run (`Refused`).
+/// place of what the script says of that. Where one place alone is to be recorded, all else stays as it is. The answer is `Done`
+/// then. A site and a script are refused as by a run (`Refused`).
 ///
 /// `scratch` serves while the sites are read, `alloc` for all else. Once memory was refused (`NoMemory`), or `out`
 /// can't be written to (`Write`), nothing more is printed.

@@ -1,4 +1,4 @@
-//! Scripts that test themselves: what comes of each line is compared with the comments behind it.
+//! Tests scripts: compares what comes of each line with the comments after it.
 ghost use Rattle.std.specs.Prelude.{◌≡◌, ◌≢◌, ◌⊎◌, ◌↔◌, Ok, Err, None, Bool, IfOk, OnOk, IsSome, IsSomeAnd, is_some, true, false, length};
 ghost use Rattle.std.specs.List.{list_any};
 ghost use Rattle.cell_table.specs.SiteFile.{described_site, IsBlankFile};
@@ -14,29 +14,22 @@ use crate::came::came_lines;
 use crate::compare::{CameLine, Difference, find_difference, find_last_difference, first_behind};
 use crate::heard::{Came, PartListener, run_heard};
 use crate::lines::{expected_in, is_any, lines_of, part_end, says_something};
-use crate::misses::{expect_held, has_broken, holds_all, print_all_unheld, print_broken};
+use crate::misses::{expect_held, has_broken, holds_all, tell_all_unheld, tell_broken};
 use crate::nearest::{nearest_to, shown};
-use crate::printed::{Miss, print_met, print_miss, print_missing, print_not_met, print_reason};
+use crate::printed::Miss;
+use crate::reasons::Reasons;
 use lab_runs::run::{Sites, Status, read_sites, refuse_site};
 use lab_script::script::{ScriptFault, read_script};
 use run_listeners::{LabFault, Printing};
 use std::alloc::{Allocator, Global};
-use std::io::Write;
+use std::io;
 
-/// A test among others: its number, counted from 1, and its name.
-#[derive(Clone, Copy, Debug, PartialEq, Eq)]
-pub struct Numbered<'a> {
-    pub number: usize,
-    pub name: &'a str,
-}
-
-/// A test that is running: the lines of its script, the place of the first that stands behind what came so far, and whether
-/// all was met so far.
+/// A test that is running: who is told why its script isn't met, the lines of that, the place of the first that stands behind what
+/// came so far, and whether all was met so far.
 #[derive(Drop)]
-struct Tester<'a, W: Write, A: Allocator + Copy> {
+struct Tester<'a, A: Allocator + Copy> {
     alloc: A,
-    out: &'a mut W,
-    test: Numbered<'a>,
+    reasons: &'a mut Reasons<A>,
     lines: &'a [&'a str],
     place: usize,
     is_met: bool,
@@ -82,9 +75,9 @@ fn is_any_before(lines: &[&str]) -> bool {
     }
 }
 
-/// Prints which line is expected behind any lines and isn't among those that came, which are these.
-fn print_not_among<W: Write>(
-    out: &mut W,
+/// Tells which line is expected behind any lines and isn't among those that came, which are these.
+fn tell_not_among<A: Allocator + Copy>(
+    reasons: &mut Reasons<A>,
     line: usize,
     expected: &str,
     came: &[CameLine<'_>],
@@ -95,16 +88,16 @@ fn print_not_among<W: Write>(
             expected: Some(expected),
             came: None,
         };
-        return Ok(print_reason(out, miss)?);
+        return reasons.tell(miss);
     }
     let nearest = nearest_to(came, expected);
-    Ok(print_missing(out, line, expected, nearest, came.len())?)
+    reasons.tell_missing(line, expected, nearest, came.len())
 }
 
-/// Prints where a part, which begins behind so many lines of the script, differs from what came of it.
-fn print_difference<A: Allocator + Copy, W: Write>(
+/// Tells where a part, which begins behind so many lines of the script, differs from what came of it.
+fn tell_difference<A: Allocator + Copy>(
     alloc: A,
-    out: &mut W,
+    reasons: &mut Reasons<A>,
     before: usize,
     part: &[&str],
     came: &[CameLine<'_>],
@@ -119,7 +112,7 @@ fn print_difference<A: Allocator + Copy, W: Write>(
         Some(expected) if is_any_before(met) => {
             let place = first_behind(alloc, met, came)?;
             let (_, behind) = came.split_at(place.min(came.len()));
-            print_not_among(out, line, expected, behind)
+            tell_not_among(reasons, line, expected, behind)
         }
         Some(_) | None => {
             let came = came.get(difference.came).map(|line| shown(*line, expected));
@@ -128,27 +121,13 @@ fn print_difference<A: Allocator + Copy, W: Write>(
                 expected,
                 came,
             };
-            Ok(print_reason(out, miss)?)
+            reasons.tell(miss)
         }
     }
 }
 
-impl<W: Write, A: Allocator + Copy> Tester<'_, W, A> {
-    /// The script isn't met: that is printed, where it wasn't yet.
-    fn miss(&mut self) -> Result<(), LabFault>
-        ensures lines { self.new.lines.now ≡ self.old.lines.now }
-        ensures place { self.new.place ≡ self.old.place }
-        ensures missed { OnOk result (self.new.is_met ≡ false) }
-    {
-        if !self.is_met {
-            return Ok(());
-        }
-        self.is_met = false;
-        print_not_met(self.out, self.test.number, self.test.name)?;
-        Ok(())
-    }
-
-    /// Prints where a part differs from what came of it, if it does.
+impl<A: Allocator + Copy> Tester<'_, A> {
+    /// Tells where a part differs from what came of it, if it does.
     fn look_at_difference(
         &mut self,
         part: &[&str],
@@ -162,12 +141,11 @@ impl<W: Write, A: Allocator + Copy> Tester<'_, W, A> {
         let Some(difference) = difference else {
             return Ok(());
         };
-        self.miss()?;
-        print_difference(self.alloc, self.out, self.place, part, came, difference)?;
-        Ok(())
+        self.is_met = false;
+        tell_difference(self.alloc, self.reasons, self.place, part, came, difference)
     }
 
-    /// Prints which lines of a part say that no line is so as one that came is.
+    /// Tells which lines of a part say that no line is so as one that came is.
     fn look_at_refused(&mut self, part: &[&str], came: &[CameLine<'_>]) -> Result<(), LabFault>
         ensures lines { self.new.lines.now ≡ self.old.lines.now }
         ensures place { self.new.place ≡ self.old.place }
@@ -177,12 +155,11 @@ impl<W: Write, A: Allocator + Copy> Tester<'_, W, A> {
         if !has_broken(part, came) {
             return Ok(());
         }
-        self.miss()?;
-        print_broken(self.out, self.place, part, came)?;
-        Ok(())
+        self.is_met = false;
+        tell_broken(self.reasons, self.place, part, came)
     }
 
-    /// Prints which lines of a part expect something else of the books than they hold, where some do.
+    /// Tells which lines of a part expect something else of the books than they hold, where some do.
     fn look_at_held(&mut self, part: &[&str], held: &str, holds: bool) -> Result<(), LabFault>
         ensures lines { self.new.lines.now ≡ self.old.lines.now }
         ensures place { self.new.place ≡ self.old.place }
@@ -191,9 +168,8 @@ impl<W: Write, A: Allocator + Copy> Tester<'_, W, A> {
         if holds {
             return Ok(());
         }
-        self.miss()?;
-        print_all_unheld(self.alloc, self.out, self.place, part, held)?;
-        Ok(())
+        self.is_met = false;
+        tell_all_unheld(self.alloc, self.reasons, self.place, part, held)
     }
 
     /// Looks whether a part but the last is met by what came of it.
@@ -231,17 +207,9 @@ impl<W: Write, A: Allocator + Copy> Tester<'_, W, A> {
         self.look_at_refused(part, &all)?;
         self.look_at_held(part, came.held, holds)
     }
-
-    /// Prints that all is met, where it is.
-    fn print_end(&mut self) -> Result<(), LabFault> {
-        if self.is_met {
-            print_met(self.out, self.test.number, self.test.name)?;
-        }
-        Ok(())
-    }
 }
 
-impl<W: Write, A: Allocator + Copy> PartListener for Tester<'_, W, A> {
+impl<A: Allocator + Copy> PartListener for Tester<'_, A> {
     // All is met then just where it was before and the part is; the next part is the one behind.
     ghost Hears = { λ t came u. (holds : Bool) × (
         (u.lines.now ≡ t.lines.now)
@@ -266,9 +234,7 @@ impl<W: Write, A: Allocator + Copy> PartListener for Tester<'_, W, A> {
     fn hear_last(&mut self, came: Came<'_>, ended: Came<'_>) -> Result<bool, LabFault> {
         let part = part_at(self.lines, self.place);
         self.look_at_last(part, came, ended)?;
-        let is_met = self.is_met;
-        self.print_end()?;
-        Ok(is_met)
+        Ok(self.is_met)
     }
 }
 
@@ -280,12 +246,11 @@ fn say_anything(lines: &[&str]) -> bool
 }
 
 /// Tests a script over sites that were read.
-fn test_script<A: Allocator + Copy, W: Write>(
+fn test_script<A: Allocator + Copy>(
     alloc: A,
     sites: Sites<A>,
     script: &str,
-    test: Numbered<'_>,
-    out: &mut W,
+    reasons: &mut Reasons<A>,
 ) -> Result<Status, LabFault>
     ensures done { result ≡ Ok Status.Done → first_unreadable (is_some sites.peer) script.now ≡ None }
     ensures played { result ≡ Ok Status.Done → Played A (views_of sites) (items_of script.now) }
@@ -300,20 +265,19 @@ fn test_script<A: Allocator + Copy, W: Write>(
     let items = match read_script(alloc, script, sites.peer.is_some()) {
         Ok(items) => items,
         Err(ScriptFault::Line(line)) => {
-            print_miss(out, test.number, test.name, Miss::Unreadable(line))?;
+            reasons.tell(Miss::Unreadable(line))?;
             return Ok(Status::Refused);
         }
         Err(ScriptFault::NoMemory) => return Err(LabFault::NoMemory),
     };
     let lines = lines_of(alloc, script)?;
     if !say_anything(&lines) {
-        print_miss(out, test.number, test.name, Miss::Nothing)?;
+        reasons.tell(Miss::Nothing)?;
         return Ok(Status::Differs);
     }
     let mut tester = Tester {
         alloc,
-        out,
-        test,
+        reasons,
         lines: &lines,
         place: 0,
         is_met: true,
@@ -325,23 +289,21 @@ fn test_script<A: Allocator + Copy, W: Write>(
     }
 }
 
-/// Tests a script over a site, or over two where a peer's is given, all given as texts: runs it, compares what comes of
-/// each of its lines with the comments behind that ([`find_difference`], [`find_last_difference`]), and prints one test
-/// of TAP. Where what came is what the comments expect, the answer is `Done`. Else it is `Differs`, and of each line of the
-/// script the first line is printed that differs, each that begins as none should, and what the books hold else than is
-/// expected. A script that expects nothing `Differs`, too, and isn't run. A script with a line that can't be read isn't run, and
-/// that line's number is printed; a text that describes no site prints what a run does: both are `Refused`.
+/// Tests a script over a site, or over two where a peer's is given, all given as texts: runs it, and compares what comes of
+/// each of its lines with the comments behind that ([`find_difference`], [`find_last_difference`]). Where what came is what the
+/// comments expect, the answer is `Done`. Else it is `Differs`, and `reasons` is told why: of each line of the script the first
+/// line that differs, each that begins as none should, and what the books hold else than is expected. A script that expects
+/// nothing `Differs`, too, and isn't run. A script with a line that can't be read isn't run, and `reasons` is told which; it is
+/// `Refused` then, and so is a text that describes no site.
 ///
-/// `scratch` serves while the sites are read, `alloc` for all else. Once memory was refused (`NoMemory`), or `out`
-/// can't be written to (`Write`), nothing more is printed.
-pub fn test_run<A: Allocator + Copy, W: Write>(
+/// `scratch` serves while the sites are read, `alloc` for all else.
+pub fn test_run<A: Allocator + Copy>(
     alloc: A,
     scratch: Global,
     site: &str,
     peer: Option<&str>,
     script: &str,
-    test: Numbered<'_>,
-    out: &mut W,
+    reasons: &mut Reasons<A>,
 ) -> Result<Status, LabFault>
     ensures played { result ≡ Ok Status.Done → IsPlayed A site.now (sites_said.texts_of peer.entry) script.now }
 
@@ -360,7 +322,7 @@ pub fn test_run<A: Allocator + Copy, W: Write>(
     ensures memory { result ≡ Err LabFault.NoMemory → ¬ IsBlankFile site.now }
 {
     match read_sites(alloc, scratch, site, peer) {
-        Ok(sites) => test_script(alloc, sites, script, test, out),
-        Err(fault) => refuse_site::<A, _>(fault, &mut Printing::new(out)),
+        Ok(sites) => test_script(alloc, sites, script, reasons),
+        Err(fault) => refuse_site::<A, _>(fault, &mut Printing::new(&mut io::sink())),
     }
 }

@@ -1,10 +1,10 @@
-//! What a traffic channel has of its timeslot, and at what rate it carries speech.
+//! The part of its timeslot that a traffic channel has, and the rate at which it carries speech.
 #![tactic(auto)]
 
 ghost use Rattle.std.specs.Prelude.{◌≡◌, ◌≤◌};
 ghost use Rattle.timeslots.specs.Parts.{rate_of, sub_number, overlap, needs};
 
-/// At what rate a traffic channel carries speech (TS 45.002 clause 3.2).
+/// The rate at which a traffic channel carries speech (TS 45.002 clause 3.2).
 #[derive(Clone, Copy, Debug, PartialEq, Eq)]
 pub enum Rate {
     /// Full rate, TCH/F.
@@ -13,7 +13,7 @@ pub enum Rate {
     Half,
 }
 
-/// What a channel has of its timeslot: all of it, or one of its two subchannels (TS 45.002 clause 6.4.1).
+/// The part of its timeslot that a channel has: all of it, or one of its two subchannels (TS 45.002 clause 6.4.1).
 ///
 /// ```text
 /// +-------------------+
@@ -55,7 +55,7 @@ impl Sub {
         }
     }
 
-    /// Whether it is another part of a timeslot, which has something of it in common.
+    /// Whether it is another part of a timeslot, and overlaps this one.
     pub fn overlaps(self, other: Sub) -> bool
         ensures value { result ≡ overlap self other }
     {
@@ -67,8 +67,8 @@ impl Sub {
         }
     }
 
-    /// Whether a channel with this part of a timeslot can be used only where the other part isn't: where it is that part, or
-    /// they have something in common.
+    /// Whether a channel with this part of a timeslot can be used only if the other part isn't: they are the same part, or
+    /// they overlap.
     pub fn needs(self, other: Sub) -> bool
         ensures value { result ≡ needs self other }
     {

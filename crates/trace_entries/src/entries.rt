@@ -51,7 +51,7 @@ fn entry_event(text: &str) -> Option<Event>
     read_event(event)
 }
 
-/// What stands in a line behind `event `; nothing where it is no entry.
+/// What stands in a line behind `event `; nothing if it is no entry.
 fn entry_text(line: &str) -> Option<&str>
     ensures { option_map (λ text. text.now) result ≡ said.behind (codes "event ") line.now }
 {

@@ -8,7 +8,7 @@ use channel_fsm::{ChanId, ChanState};
 use radio_book::event::{Attempt, AttemptKind, CallRecord, Refusal, Reply, Stage};
 use std::fmt;
 
-/// A channel, or `-` where there is none.
+/// A channel, or `-` if there is none.
 #[derive(Clone, Copy)]
 struct ChanOrDash(Option<ChanId>);
 
@@ -23,7 +23,7 @@ impl fmt::Display for ChanOrDash {
     }
 }
 
-/// A handover reference, or `-` where there is none.
+/// A handover reference, or `-` if there is none.
 #[derive(Clone, Copy)]
 struct ReferenceOrDash(Option<u8>);
 

@@ -16,7 +16,7 @@ impl<A: Allocator> fmt::Display for AbisText<'_, A> {
     }
 }
 
-/// The octets of the radio resource message inside a message on Abis (TS 48.058 clause 9.3.11), where there is one.
+/// The octets of the radio resource message inside a message on Abis (TS 48.058 clause 9.3.11), if there is one.
 pub fn layer3_of<A: Allocator>(message: &Rsl<A>) -> Option<&[u8]> {
     visit_abis(message, &mut Layer3Sought).err()
 }

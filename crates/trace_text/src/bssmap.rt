@@ -16,7 +16,7 @@ impl<A: Allocator + Copy> fmt::Display for BssmapText<'_, A> {
     }
 }
 
-/// The octets of the radio resource message inside a message on A (TS 48.008 clause 3.2.2.24), where there is one.
+/// The octets of the radio resource message inside a message on A (TS 48.008 clause 3.2.2.24), if there is one.
 pub fn layer3_of<A: Allocator>(message: &Bssmap<A>) -> Option<&[u8]> {
     visit_a(message, &mut Layer3Sought).err()
 }

@@ -15,7 +15,7 @@ impl fmt::Display for HexText<'_> {
     }
 }
 
-/// A value, or `-` where there is none.
+/// A value, or `-` if there is none.
 #[derive(Drop)]
 pub(crate) struct OrDash<T>(pub(crate) Option<T>);
 

@@ -1,4 +1,4 @@
-//! Listeners that hear few things.
+//! Listeners that ignore most of a run.
 use cell_table::SiteFault;
 use radio_book::book::Book;
 use run_listeners::{LabFault, Listener, Turn};

@@ -1,4 +1,4 @@
-//! A run in which an operator takes an attempt back.
+//! A run in which an operator undoes an attempt.
 use crate::deaf::Deaf;
 use exchange::{Inbound, Line};
 use lab_runs::course::{Course, MOST_ANSWERS, Run, drop_rest};
@@ -9,14 +9,14 @@ use run_listeners::LabFault;
 use std::alloc::Allocator;
 use std::collections::VecDeque;
 
-/// Where an operator takes an attempt at handover back, though the script doesn't say so.
+/// Where an operator undoes an attempt at handover, in addition to the script.
 #[derive(Clone, Copy, Debug, PartialEq, Eq)]
 pub struct Interruption {
-    /// Right behind so many inputs, of the script and of simulators.
+    /// After this number of inputs, of the script and of simulators.
     pub behind: usize,
     /// The controller.
     pub side: Side,
-    /// The call whose attempt it is.
+    /// The call of the attempt.
     pub call: u16,
 }
 
@@ -54,7 +54,7 @@ impl<A: Allocator + Copy> Interrupted<A> {
         self.begin(item, deaf)
     }
 
-    /// Handles what simulators sent first; nothing where nothing waits. Answers whether something did.
+    /// Handles what simulators sent first; nothing if nothing waits. Answers whether something did.
     fn answer(&mut self, deaf: &mut Deaf) -> Result<bool, LabFault> {
         let Some(arrival) = self.waiting.pop_front() else {
             return Ok(false);

@@ -1,6 +1,6 @@
-//! Scripts in which each attempt at handover is taken back at each point, once, and taken out of what came of that: where
-//! attempts are open (`points`), a run in which an operator takes one back (`interrupted`), what comes of that (`verdict`),
-//! and the tests of a script (`tried`), which are printed as TAP (`printed`).
+//! Scripts in which each attempt at handover is undone at each point, once, and then taken out of the run: the points at
+//! which attempts are open (`points`), a run in which an operator undoes one (`interrupted`), its result (`verdict`), and
+//! the tests of a script (`tried`), which are printed as TAP (`printed`).
 #![tactic(auto)]
 
 mod deaf;

@@ -12,16 +12,16 @@ use trace_text::trace::Step;
 struct Open {
     side: Side,
     call: u16,
-    /// Where the event stands that opened it, among all that its controller was asked, counted from 0.
+    /// The place of the event that opened it, among all that its controller was asked, counted from 0.
     opening: usize,
 }
 
 /// A point at which an attempt is open.
 #[derive(Clone, Copy, Debug, PartialEq, Eq)]
 pub struct Point {
-    /// Where an operator is to take the attempt back.
+    /// Where an operator is to undo the attempt.
     pub undo: Interruption,
-    /// Where the event stands that opened it, among all that its controller was asked, counted from 0.
+    /// The place of the event that opened it, among all that its controller was asked, counted from 0.
     pub opening: usize,
 }
 
@@ -128,8 +128,8 @@ fn is_within<A: Allocator>(next: Option<&Turn<A>>, starts: &[usize], behind: usi
     }
 }
 
-/// The points of a run at which an attempt is open: behind each input, each such attempt, in the order in which they opened; but
-/// not between the inputs that one line gives at once. Before the inputs of each line there are as many as `starts` says.
+/// The points of a run at which an attempt is open: after each input, each open attempt, in the order in which they opened,
+/// but not between the inputs that one line gives at once. `starts` says for each line how many inputs come before it.
 pub fn points_of<A: Allocator + Copy>(
     alloc: A,
     turns: &[Turn<A>],

@@ -1,6 +1,6 @@
-//! What is printed of attempts that were taken back, which is TAP.
+//! Prints the tests of attempts that were undone, as TAP.
 //!
-//! No clause says what is printed: that is shown by tests.
+//! No clause says what is printed: tests show it.
 use crate::points::Point;
 use crate::verdict::{Difference, Verdict};
 use event_text::writing::EventText;
@@ -11,17 +11,17 @@ use std::io::{self, Write};
 use tested_scripts::TestName;
 use trace_text::trace::ReplyText;
 
-/// How many attempts were taken back, by what came of that.
+/// How many attempts were undone, by their results.
 #[derive(Clone, Copy, Debug, PartialEq, Eq)]
 pub struct Tally {
-    /// All tests so far, those of scripts that are refused too.
+    /// All tests so far, also those of refused scripts.
     pub tests: usize,
     pub same: usize,
-    /// An event was refused for what the attempt held.
+    /// An event was refused because of what the attempt held.
     pub held: usize,
     /// The release of its channel is still awaited.
     pub unsettled: usize,
-    /// Something differs, and neither was so.
+    /// Something differs, and neither of these two is the case.
     pub differing: usize,
 }
 
@@ -43,7 +43,7 @@ impl Tally {
         self.tests
     }
 
-    /// Counts what came of an attempt; nothing where it wasn't taken back.
+    /// Counts the result of an attempt, which is `None` if it wasn't undone.
     pub fn count(&mut self, verdict: Option<Verdict>) {
         let count = match Sort::of(verdict) {
             Sort::Same => &mut self.same,
@@ -65,7 +65,7 @@ pub enum Sort {
 }
 
 impl Sort {
-    /// What comes of it; of one that wasn't taken back, nothing.
+    /// What a result is counted as. It is `None` if the attempt wasn't undone.
     pub fn of(verdict: Option<Verdict>) -> Sort {
         match verdict {
             None => Sort::Differs,
@@ -106,7 +106,7 @@ impl fmt::Display for DifferenceText {
     }
 }
 
-/// What came of an attempt that was taken back: what was refused for what it held is shown by its entry.
+/// The result of an attempt that was undone, with the entry of the event that was refused because of what it held.
 #[derive(Clone, Copy)]
 pub struct VerdictText {
     pub verdict: Option<Verdict>,
@@ -128,7 +128,7 @@ impl fmt::Display for VerdictText {
     }
 }
 
-/// Prints what came of an attempt that was taken back at a point of a script.
+/// Prints the result of an attempt that was undone at a point of a script.
 pub fn print_verdict<W: Write>(
     out: &mut W,
     number: usize,
@@ -144,12 +144,12 @@ pub fn print_verdict<W: Write>(
     let undo = UndoText(point);
     writeln!(
         out,
-        "{ok} {number} - {}: {undo} behind input {behind}: {text}",
+        "{ok} {number} - {}: {undo} after input {behind}: {text}",
         TestName(name)
     )
 }
 
-/// Prints how many tests there were, and what came of them.
+/// Prints the number of tests, and their results.
 pub fn print_tally<W: Write>(out: &mut W, tally: &Tally) -> io::Result<()> {
     writeln!(out, "1..{}", tally.tests)?;
     let Tally {

@@ -1,4 +1,4 @@
-//! A script in which each attempt is taken back at each point.
+//! A script in which each attempt is undone at each point.
 use crate::deaf::LineStarts;
 use crate::interrupted::{Interruption, play_interrupted};
 use crate::points::{Point, points_of};
@@ -15,7 +15,7 @@ use std::alloc::{AllocError, Allocator, Global};
 use std::io::Write;
 use tested_scripts::{Miss, print_miss};
 
-/// A script over a site, or over two where a peer's is given, all as texts, and the script's name.
+/// A script with its name, its site, and its peer's site if one is given, all as texts.
 #[derive(Clone, Copy, Debug, PartialEq, Eq)]
 pub struct Trial<'a> {
     pub site: &'a str,
@@ -24,7 +24,7 @@ pub struct Trial<'a> {
     pub name: &'a str,
 }
 
-/// The sites of a trial; nothing where a text describes none.
+/// The sites of a trial; nothing if a text describes none.
 fn sites_of<A: Allocator + Copy>(
     alloc: A,
     scratch: Global,
@@ -37,7 +37,7 @@ fn sites_of<A: Allocator + Copy>(
     }
 }
 
-/// What comes of a trial's script; nothing where it can't be run, and then the listener was told which line can't be read.
+/// What comes of a trial's script; nothing if it can't be run, and then the listener was told which line can't be read.
 fn run_of<A: Allocator + Copy>(
     alloc: A,
     scratch: Global,
@@ -63,7 +63,7 @@ fn undone_run_of<A: Allocator + Copy>(
     }
 }
 
-/// The desk of a controller of a run; nothing where it isn't there.
+/// The desk of a controller of a run; nothing if it isn't there.
 fn desk_of<A: Allocator + Copy>(run: &Run<A>, side: Side) -> Option<&Desk<A>> {
     match side {
         Side::First => Some(run.controllers.first.view().desk()),
@@ -209,16 +209,16 @@ fn refuse<W: Write>(
     Ok(Status::Refused)
 }
 
-/// Plays a script once more for each attempt and each input behind which it is open, the simulators' answers too, but not between
-/// those that one line gives at once: there an
-/// operator takes it back, and it is taken out of what came of that run ([`verdict_of`]). Prints a test of TAP for each: the
-/// point, and whether nothing differs without the attempt, else what does; and beside it which event was refused for what it
-/// held, or that the release of its channel is awaited. Where neither is so, nothing differs. `tally` counts them all.
+/// Plays a script once for each attempt and each input after which the attempt is open. (Answers of simulators are inputs
+/// too. Between inputs that one line gives at once nothing is undone.) There an operator undoes the attempt, and it is taken
+/// out of that run ([`verdict_of`]). Prints a test of TAP for each: the point, and whether nothing differs without the
+/// attempt, else what differs; also which event was refused because of what the attempt held, or that the release of its
+/// channel is awaited. If neither is the case, nothing differs. `tally` counts all tests.
 ///
-/// The answer is `Done` where in each test nothing differs, or one of these two is so; else `Differs`. A script with a line
-/// that can't be read isn't run, and that line's number is printed as that of a test that isn't met: `Refused`, as where a
-/// text describes no site, of which nothing is printed. `scratch` serves while sites are read, `alloc` for all else. Once
-/// memory was refused (`NoMemory`), or `out` can't be written to (`Write`), nothing more is printed.
+/// The answer is `Done` if in each test nothing differs, or one of these two is the case; else `Differs`. A script with a
+/// line that can't be read isn't run: the line's number is printed as a test that isn't met, and the answer is `Refused`. It
+/// is `Refused` too if a text describes no site; then nothing is printed. `scratch` serves while sites are read, `alloc` for
+/// all else. Once memory was refused (`NoMemory`), or `out` can't be written to (`Write`), nothing more is printed.
 pub fn try_undos<A: Allocator + Copy, W: Write>(
     alloc: A,
     scratch: Global,

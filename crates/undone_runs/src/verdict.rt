@@ -1,4 +1,4 @@
-//! What comes of an attempt that was taken back.
+//! The result of an attempt that was undone.
 ghost use Rattle.std.specs.Prelude.{◌≡◌, ◌≢◌, ◌↔◌, ◌++◌, Ok, Some, None, true, slice_get, IfOk, OnOk, IfSome};
 ghost use Rattle.radio_book.specs.NoTrace.{LeavesNoTrace};
 ghost use Rattle.radio_book.specs.Undone.{Undone, OpensUndone, IsUndoneAt, is_settled, first_held};
@@ -15,18 +15,19 @@ use std::alloc::{AllocError, Allocator};
 /// What differs without an attempt.
 #[derive(Clone, Copy, Debug, PartialEq, Eq)]
 pub enum Difference {
-    /// This event, one of the others, gets another reply: the first such.
+    /// This event is the first of the others that gets another reply.
     Reply(Event),
-    /// The replies are the same, and the book is another.
+    /// The replies are the same, but the book differs.
     Book,
 }
 
-/// What comes of an attempt that was taken back, once it is taken out of what its controller was asked.
+/// The result of an attempt that was undone and is taken out of what its controller was asked.
 #[derive(Clone, Copy, Debug, PartialEq, Eq)]
 pub struct Verdict {
     /// No release of its channel is awaited.
     pub settled: bool,
-    /// Where the first of the others stands that was refused for what it held, among all that was asked, counted from 0.
+    /// The place of the first of the other events that was refused because of what it held, among all that was asked,
+    /// counted from 0.
     pub held: Option<usize>,
     /// What differs without it, if anything does.
     pub difference: Option<Difference>,
@@ -83,9 +84,9 @@ fn difference_of<A: Allocator>(rewound: &Rewound<A>, events: &[Event]) -> Option
     }
 }
 
-/// Takes the attempt that opens at a place of what a desk was asked, counted from 0, out of that; nothing where none opens
-/// there that was taken back. Where no release of its channel is awaited, and no event was refused for what it held, nothing
-/// differs without it: it leaves no trace.
+/// Takes the attempt that opens at this place, counted from 0, out of what a desk was asked; nothing if no undone attempt
+/// opens there. If no release of its channel is awaited, and no event was refused because of what it held, nothing differs
+/// without it: it leaves no trace.
 pub fn verdict_of<A: Allocator + Copy>(
     alloc: A,
     desk: &Desk<A>,

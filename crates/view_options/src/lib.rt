@@ -10,6 +10,17 @@ pub enum SummaryForm {
     Json,
 }
 
+/// The sequence chart that is asked for.
+#[derive(Clone, Copy, Debug, PartialEq, Eq)]
+pub struct ChartView<'a> {
+    /// The path of its file.
+    pub path: &'a str,
+    /// Also with what was only looked up in the book.
+    pub looks: bool,
+    /// As pages, each in a file of its own.
+    pub pages: bool,
+}
+
 /// The views that are asked for.
 #[derive(Clone, Copy, Debug, PartialEq, Eq)]
 pub struct Views<'a> {
@@ -21,8 +32,8 @@ pub struct Views<'a> {
     pub decisions: bool,
     /// The path of the capture file.
     pub pcap: Option<&'a str>,
-    /// The path of the sequence chart.
-    pub chart: Option<&'a str>,
+    /// The sequence chart.
+    pub chart: Option<ChartView<'a>>,
     /// What the run came to, counted.
     pub summary: Option<SummaryForm>,
     /// Behind each input the line of the script that gave it.

@@ -1,5 +1,5 @@
-//! An inbox between two threads, one of which sends and the other takes: what was sent is what was taken, in the same
-//! order, and then what still waits in it.
+//! An inbox between two threads: one sends, the other takes. What was sent is what was taken, in the same order, followed by
+//! what still waits in the inbox.
 //!
 //! A proof can't look into a channel that threads share. So each of the two carries a *pass*: a value without bytes, which
 //! exists in proofs alone and knows what its thread has done so far. [`post`] and [`take`] write it on. Once both passes

@@ -16,7 +16,7 @@ pub struct Log<T> {
     pub taken: LinkedList<T>,
 }
 
-/// The rule: what was sent is what was taken, and then what waits.
+/// The rule: what was sent is what was taken, followed by what waits.
 pub struct InOrder;
 
 impl<T> Protocol<T, Log<T>> for InOrder {

@@ -1,4 +1,4 @@
-//! By which position and code a mobile names a neighbour of the cell that serves it.
+//! The position and the code by which a mobile names a neighbour of its serving cell.
 ghost use Rattle.std.specs.Prelude.{◌≡◌, ◌≤◌, ◌↔◌, ℕ, length};
 ghost use Rattle.cell_table.specs.Limits.{most_neighbours};
 ghost use Rattle.cell_table.specs.Site.{IsSite, IsIdentity};
@@ -10,7 +10,7 @@ use crate::neighbours::count_before;
 use crate::tables::{CellIdentity, Tables};
 use std::alloc::Allocator;
 
-/// The place of a carrier in the neighbour list that a BA list gives; `None` where it isn't one of them.
+/// The place of a carrier in the neighbour list that a BA list gives; `None` if it isn't one of them.
 fn place_of(ba: &[u16], carrier: u16) -> Option<u8>
     requires { length ba.now ≤ most_neighbours }
     ensures value { result ≡ place_of ba.now carrier }
@@ -49,9 +49,9 @@ fn name_in(tables: &Tables, cell: u8, neighbour: u8) -> Option<(u8, u8)>
 }
 
 impl<A: Allocator + Copy> Site<A> {
-    /// By which position in its neighbour list and which base station identity code a mobile in an own cell names a
-    /// neighbour, an own or outside cell: what [`Site::by_bsic`] finds the neighbour by. `None` where the cell isn't an
-    /// own one, where there is no such neighbour, and where the neighbour's carrier isn't in the cell's `ba`.
+    /// The position in the neighbour list and the base station identity code by which a mobile in an own cell names a
+    /// neighbour, an own or an outside cell. [`Site::by_bsic`] finds the neighbour by them. `None` if the cell isn't an own
+    /// one, if there is no such neighbour, or if the neighbour's carrier isn't in the cell's `ba`.
     ///
     /// The position is 0 to 31, the code 0 to 63: eight times the neighbour's `ncc` and its `bcc`.
     pub fn reported_as(&self, cell: u8, neighbour: u8) -> Option<(u8, u8)>

@@ -26,8 +26,7 @@ pub fn sub_at(number: usize) -> Sub
     }
 }
 
-/// The number of a channel among all that a site can have, by cell, TRX, timeslot and part of it; `None` where no site has
-/// it.
+/// The number of a channel among all that a site can have, by cell, TRX, timeslot and part of it; `None` if no site has it.
 fn number_of(x: ChanId) -> Option<usize>
     ensures { result ≡ (if is_within x then Some (number_of x) else None) }
 {

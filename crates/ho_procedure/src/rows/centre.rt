@@ -45,7 +45,7 @@ fn take_other<D: DeskView + Drop, A: Allocator + Copy>(
     go_on_taken(work, call, target, reply)
 }
 
-/// A call is to come to this own cell, where there is one, at one of these rates.
+/// A call is to come to this own cell, if there is one, at one of these rates.
 #[tactic(auto, using(crate::proofs::Asking::row_steps), unfolding(crate::specs::Procedure::admit_plan))]
 fn admit<D: DeskView + Drop, A: Allocator + Copy>(
     work: &mut Work<D, A>,

@@ -123,8 +123,8 @@ fn a_cut_is_told(rt: HostRuntime) -> Result<(), Fail> {
     let told = format!(in alloc; "{damage}")?;
     assert_eq!(rt;
         told.as_str(),
-        "record 3 is damaged; a cut behind octet 500 (truncate -s 500) leaves a whole journal, and gives up the records from 3 on, of \
-         which 4 is the last that is whole"
+        "record 3 is damaged; truncate -s 500 cuts the file after octet 500, and leaves a whole journal without the records from 3 \
+         on; of these the last whole one is 4"
     );
     let alone = Damage {
         first: 3,
@@ -133,7 +133,7 @@ fn a_cut_is_told(rt: HostRuntime) -> Result<(), Fail> {
     };
     let told = format!(in alloc; "{alone}")?;
     assert!(rt;
-        told.as_str().ends_with("from 3 on, of which none is whole"),
+        told.as_str().ends_with("from 3 on; of these none is whole"),
         "{told}"
     );
     assert!(rt; damage_at(b"in clear 1\n", 1).is_none());

@@ -2,10 +2,10 @@
 use super::failing::Failing;
 use super::{SITE, equals_at, holds_at, is_whole_or_cut};
 use expectations::Recording;
-use lab::LabFault;
 use lab::recorded::record_run;
 use lab::run::Status;
-use lab::tested::{Numbered, test_run};
+use lab::tested::test_run;
+use lab::{LabFault, Reasons};
 use refusing_heap::RefusingHeap;
 use std::alloc::{Allocator, Global};
 use std::process::Abort;
@@ -34,6 +34,7 @@ abis 0 0 0822010b081234
 const PLAIN: Recording = Recording {
     words: false,
     states: false,
+    only: None,
 };
 
 /// What the record of the script prints, and how it ends.
@@ -46,19 +47,15 @@ fn recorded<A: Allocator + Copy>(
     Ok((status, String::from_utf8(out)?))
 }
 
-/// The one test that is asked for.
-const ALONE: Numbered<'_> = Numbered {
-    number: 1,
-    name: "script",
-};
-
-/// What the test of the record prints, and how it ends.
+/// Why the record isn't met, and how its test ends.
 fn tested<A: Allocator + Copy>(
     alloc: A,
     scratch: Global,
 ) -> Result<(Result<Status, LabFault>, String), Fail> {
+    let mut reasons = Reasons::new(alloc);
+    let status = test_run(alloc, scratch, SITE, None, RECORD, &mut reasons);
     let mut out = Vec::new(scratch);
-    let status = test_run(alloc, scratch, SITE, None, RECORD, ALONE, &mut out);
+    reasons.print(&mut out)?;
     Ok((status, String::from_utf8(out)?))
 }
 
@@ -70,7 +67,7 @@ fn works_without(rt: &impl Abort, alloc: Global, n: u64, is_test: bool) -> Resul
     } else {
         recorded(&heap, alloc)?
     };
-    let wanted = if is_test { "ok 1 - script\n" } else { RECORD };
+    let wanted = if is_test { "" } else { RECORD };
     is_whole_or_cut(rt, &heap, (status, text.as_str()), wanted, n);
     Ok(!heap.was_refused())
 }

@@ -9,7 +9,7 @@ use std::fs;
 use std::process::Abort;
 use std::rt::Files;
 use std::test::Fail;
-use view_options::Views;
+use view_options::{ChartView, Views};
 
 /// The files of a run and of its views, in the folder that the test runs in.
 const SITE_FILE: &str = "viewed.toml";
@@ -26,7 +26,11 @@ const ALL: Views<'_> = Views {
     state: true,
     decisions: true,
     pcap: Some(PCAP_FILE),
-    chart: Some(CHART_FILE),
+    chart: Some(ChartView {
+        path: CHART_FILE,
+        looks: false,
+        pages: false,
+    }),
     summary: None,
     lines: false,
     call: None,

@@ -134,7 +134,7 @@ fn run_over<R: Files + AllocGlobal, W: Write, E: Write>(
     errors: &mut E,
 ) -> Result<(), LiveFault> {
     let book = fresh_book(heap, rt.alloc())?;
-    let Some(sheets) = open_sheets(rt, views, out, errors)? else {
+    let Some(sheets) = open_sheets(rt, views, &[], out, errors)? else {
         return Err(LiveFault::Write);
     };
     let mut viewer = LiveViewer::new(heap, views, sheets, out, errors)?;
@@ -192,7 +192,7 @@ fn hears_owed<R: Files + AllocGlobal, W: Write, E: Write>(
     out: &mut W,
     errors: &mut E,
 ) -> Result<(), LabFault> {
-    let Some(sheets) = open_sheets(rt, views, out, errors)? else {
+    let Some(sheets) = open_sheets(rt, views, &[], out, errors)? else {
         return Err(LabFault::Write);
     };
     let mut viewer = LiveViewer::new(rt.alloc(), views, sheets, out, errors)?;

@@ -1,7 +1,7 @@
 //! A simulated world: what comes of each course, also where memory is refused. All octets are worked out by hand from
 //! TS 48.058 clauses 8 and 9 and TS 44.018 clauses 9 and 10.
-use super::{courses, halves, holds_at};
-use bts_model::{Act, Habit, Held, Setting, StationOut, World};
+use super::{courses, halves, holds_at, restarts};
+use bts_model::{Act, Habit, Held, Restart, Setting, StationOut, World};
 use cell_table::Site;
 use channel_fsm::ChanId;
 use refusing_heap::RefusingHeap;
@@ -11,14 +11,16 @@ use std::process::Abort;
 use std::sync::Arc;
 use std::test::Fail;
 
-/// What is done: octets that a controller sends a TRX of a cell, or an act at a channel of a controller.
+/// What is done: octets that a controller sends a TRX of a cell, an act at a channel of a controller, or the restart of its
+/// station in a cell, or of one TRX.
 #[derive(Clone, Copy, Debug)]
 pub(super) enum Ask {
     Send(usize, u8, u8, &'static [u8]),
     Set(usize, ChanId, Act),
+    Restarts(usize, u8, Option<u8>),
 }
 
-use Ask::{Send, Set};
+use Ask::{Restarts, Send, Set};
 
 /// A message from a station: its controller, cell and TRX, and the octets.
 pub(super) type Out = (usize, u8, u8, &'static [u8]);
@@ -101,6 +103,11 @@ fn put<A: Allocator + Copy>(
     match asked {
         Send(controller, cell, trx, octets) => world.step(controller, cell, trx, octets),
         Set(controller, chan, act) => world.set(Setting::of(controller, chan, act)),
+        Restarts(controller, cell, trx) => world.restart(Restart {
+            controller,
+            cell,
+            trx,
+        }),
     }
 }
 
@@ -162,7 +169,7 @@ const COURSE: &[Row] = &[
     ),
 ];
 
-/// All courses.
+/// All courses in which no station restarts.
 const COURSES: &[Course] = &[
     // each message takes some, and so do what is known of three channels, the holds, and the world itself
     Course {
@@ -177,6 +184,9 @@ const COURSES: &[Course] = &[
     halves::ACTIVATED,
     halves::MOVED,
 ];
+
+/// All courses in which a station restarts.
+const RESTARTS: &[Course] = &[restarts::FORGOTTEN, restarts::OF_ONE];
 
 /// Asks one row: the answer is an allocation failure exactly where memory was refused. Asked again, the world, which is as
 /// it was, gives what the row says.
@@ -254,6 +264,15 @@ fn requests_of_a_site(rt: &impl AllocGlobal) -> Result<u64, Fail> {
 fn each_row_comes_also_behind_a_refusal_of_memory(rt: HostRuntime) -> Result<(), Fail> {
     let made = requests_of_a_site(&rt)?;
     for course in COURSES {
+        meets_each_refusal(&rt, course, made)?;
+    }
+    Ok(())
+}
+
+#[test]
+fn each_restart_comes_also_behind_a_refusal_of_memory(rt: HostRuntime) -> Result<(), Fail> {
+    let made = requests_of_a_site(&rt)?;
+    for course in RESTARTS {
         meets_each_refusal(&rt, course, made)?;
     }
     Ok(())

@@ -65,7 +65,7 @@ impl<T: Tables> Records<T> {
         Ok(Reply::Done)
     }
 
-    /// A new call, and its channel: both, or none where memory is refused.
+    /// A new call, and its channel: both, or none if memory is refused.
     fn add_call(
         &mut self,
         call: u16,

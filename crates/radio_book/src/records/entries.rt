@@ -19,7 +19,7 @@ use radio_tables::tables::Tables;
 use std::alloc::AllocError;
 
 impl<T: Tables> Records<T> {
-    /// The number of the site's own cells. Its contract also hands out where the site's traffic channels lie.
+    /// The number of the site's own cells. Its contract also says where the site's traffic channels lie.
     pub(super) fn cells(&self) -> u8
         ensures value { result ≡ length self.now.site.cells }
         ensures traffic { TrafficLiesWithin self.now.site }

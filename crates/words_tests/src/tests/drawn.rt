@@ -1,6 +1,6 @@
 //! Charts, whatever they are of.
 use super::{equals_at, holds_at};
-use chart::{Bar, Chart, Escaped, Lane, Row, Shape, Side, text_room};
+use chart::{Bar, Chart, Escaped, Frame, Lane, Row, Shape, Side, text_room};
 use std::alloc::{AllocError, Global};
 use std::test::Fail;
 
@@ -19,7 +19,11 @@ type Line = (&'static str, Place, &'static str);
 fn shape_of(place: Place, text: &'static str) -> Shape<'static> {
     match place {
         Place::Nowhere => Shape::Nothing,
-        Place::At(lane) => Shape::Note { lane, text },
+        Place::At(lane) => Shape::Note {
+            lane,
+            text,
+            frame: Frame::Thin,
+        },
         Place::Between(from, to) => Shape::Arrow { from, to, text },
     }
 }
@@ -76,7 +80,7 @@ fn what_is_outside_ascii_is_two_letters_wide(rt: HostRuntime) -> Result<(), Fail
     Ok(())
 }
 
-/// Room for thirty letters between the first two lanes, for the twenty that are always there between the next two.
+/// Room for thirty letters between the first two lanes, for the fourteen that are always there between the next two.
 const LANES: &[Lane<'_>] = &[
     Lane {
         name: "TRX 0/0",
@@ -106,6 +110,7 @@ const BARS: &[Bar<'_>] = &[
     Bar {
         first: 1,
         last: 3,
+        goes_on: false,
         side: Side::Left,
         track: 0,
         text: "call 1",
@@ -113,6 +118,7 @@ const BARS: &[Bar<'_>] = &[
     Bar {
         first: 2,
         last: 9,
+        goes_on: false,
         side: Side::Right,
         track: 0,
         text: "call 40000",
@@ -120,10 +126,11 @@ const BARS: &[Bar<'_>] = &[
 ];
 
 /// From left to right: 12, the heading's 15 letters of 7, 96 for a bar's text, 16 for the bar, 80; a lane at 309. 238 to the
-/// next, 168 to the last, 80 to the bar, 16 for it, 96, 12. From the upper edge 64 to the first of five rows, 20 to each
+/// next, 126 to the last, 80 to the bar, 16 for it, 96, 12. From the upper edge 84 to the first of five rows, 20 to each
 /// next, and 36.
 const SVG: &str =
-    "<svg xmlns=\"http://www.w3.org/2000/svg\" width=\"919\" height=\"180\" viewBox=\"0 0 919 180\" font-family=\"monospace\" font-size=\"11\">
+    "<svg xmlns=\"http://www.w3.org/2000/svg\" width=\"877\" height=\"200\" viewBox=\"0 0 877 200\" font-family=\"monospace\" font-size=\"11\">
+<title>a &lt;run&gt;</title>
 <defs>
 <marker id=\"head\" markerWidth=\"10\" markerHeight=\"8\" refX=\"10\" refY=\"4\" orient=\"auto\"><path d=\"M0,0 L10,4 L0,8 z\"/></marker>
 <pattern id=\"hatched\" width=\"6\" height=\"6\" patternUnits=\"userSpaceOnUse\"><path d=\"M-1,1 L1,-1 M0,6 L6,0 M5,7 L7,5\" stroke=\"#000\"/></pattern>
@@ -131,39 +138,40 @@ const SVG: &str =
 <style>text{paint-order:stroke;stroke:#fff;stroke-width:2px}</style>
 </defs>
 <rect width=\"100%\" height=\"100%\" fill=\"#fff\"/>
-<rect x=\"12\" y=\"9\" width=\"11\" height=\"11\" fill=\"url(#hatched)\" stroke=\"#000\"/>
-<text x=\"30\" y=\"18\" text-anchor=\"start\">undone at &lt;1&gt;</text>
-<rect x=\"143\" y=\"9\" width=\"11\" height=\"11\" fill=\"url(#dotted)\" stroke=\"#000\"/>
-<text x=\"161\" y=\"18\" text-anchor=\"start\">undone at 2</text>
-<line x1=\"309\" y1=\"46\" x2=\"309\" y2=\"158\" stroke=\"#000\"/>
-<line x1=\"547\" y1=\"46\" x2=\"547\" y2=\"158\" stroke=\"#000\"/>
-<line x1=\"715\" y1=\"46\" x2=\"715\" y2=\"158\" stroke=\"#000\"/>
+<text x=\"12\" y=\"18\" text-anchor=\"start\" font-weight=\"bold\">a &lt;run&gt;</text>
+<rect x=\"12\" y=\"29\" width=\"11\" height=\"11\" fill=\"url(#hatched)\" stroke=\"#000\"/>
+<text x=\"30\" y=\"38\" text-anchor=\"start\">undone at &lt;1&gt;</text>
+<rect x=\"143\" y=\"29\" width=\"11\" height=\"11\" fill=\"url(#dotted)\" stroke=\"#000\"/>
+<text x=\"161\" y=\"38\" text-anchor=\"start\">undone at 2</text>
+<line x1=\"309\" y1=\"66\" x2=\"309\" y2=\"178\" stroke=\"#000\"/>
+<line x1=\"547\" y1=\"66\" x2=\"547\" y2=\"178\" stroke=\"#000\"/>
+<line x1=\"673\" y1=\"66\" x2=\"673\" y2=\"178\" stroke=\"#000\"/>
 <g font-weight=\"bold\">
-<text x=\"309\" y=\"42\" text-anchor=\"middle\">TRX 0/0</text>
-<text x=\"547\" y=\"42\" text-anchor=\"middle\">controller</text>
-<text x=\"715\" y=\"42\" text-anchor=\"middle\">centre &lt;1&gt;</text>
+<text x=\"309\" y=\"62\" text-anchor=\"middle\">TRX 0/0</text>
+<text x=\"547\" y=\"62\" text-anchor=\"middle\">controller</text>
+<text x=\"673\" y=\"62\" text-anchor=\"middle\">centre &lt;1&gt;</text>
 </g>
 <g font-weight=\"bold\">
-<text x=\"309\" y=\"170\" text-anchor=\"middle\">TRX 0/0</text>
-<text x=\"547\" y=\"170\" text-anchor=\"middle\">controller</text>
-<text x=\"715\" y=\"170\" text-anchor=\"middle\">centre &lt;1&gt;</text>
+<text x=\"309\" y=\"190\" text-anchor=\"middle\">TRX 0/0</text>
+<text x=\"547\" y=\"190\" text-anchor=\"middle\">controller</text>
+<text x=\"673\" y=\"190\" text-anchor=\"middle\">centre &lt;1&gt;</text>
 </g>
-<rect x=\"213\" y=\"72\" width=\"11\" height=\"58\" fill=\"url(#hatched)\" stroke=\"#000\"/>
-<line x1=\"205\" y1=\"80\" x2=\"213\" y2=\"80\" stroke=\"#000\"/>
-<text x=\"201\" y=\"84\" text-anchor=\"end\">call 1</text>
-<rect x=\"795\" y=\"92\" width=\"11\" height=\"58\" fill=\"url(#dotted)\" stroke=\"#000\"/>
-<line x1=\"806\" y1=\"100\" x2=\"819\" y2=\"100\" stroke=\"#000\"/>
-<text x=\"823\" y=\"104\" text-anchor=\"start\">call 40000</text>
-<text x=\"12\" y=\"64\" text-anchor=\"start\">in open 1 0 0 3</text>
-<line x1=\"547\" y1=\"84\" x2=\"309\" y2=\"84\" stroke=\"#000\" marker-end=\"url(#head)\"/>
-<text x=\"428\" y=\"79\" text-anchor=\"middle\">CHANNEL ACTIVATION</text>
-<text x=\"12\" y=\"104\" text-anchor=\"start\">2</text>
-<line x1=\"309\" y1=\"104\" x2=\"547\" y2=\"104\" stroke=\"#000\" marker-end=\"url(#head)\"/>
-<text x=\"428\" y=\"99\" text-anchor=\"middle\">ACK &amp; frame</text>
-<rect x=\"493\" y=\"112\" width=\"108\" height=\"16\" fill=\"#fff\" stroke=\"#000\"/>
-<text x=\"547\" y=\"124\" text-anchor=\"middle\">look 1 -&gt; done</text>
-<rect x=\"689\" y=\"132\" width=\"52\" height=\"16\" fill=\"#fff\" stroke=\"#000\"/>
-<text x=\"715\" y=\"144\" text-anchor=\"middle\">itself</text>
+<rect x=\"213\" y=\"92\" width=\"11\" height=\"58\" fill=\"url(#hatched)\" stroke=\"#000\"/>
+<line x1=\"205\" y1=\"100\" x2=\"213\" y2=\"100\" stroke=\"#000\"/>
+<text x=\"201\" y=\"104\" text-anchor=\"end\">call 1</text>
+<rect x=\"753\" y=\"112\" width=\"11\" height=\"58\" fill=\"url(#dotted)\" stroke=\"#000\"/>
+<line x1=\"764\" y1=\"120\" x2=\"777\" y2=\"120\" stroke=\"#000\"/>
+<text x=\"781\" y=\"124\" text-anchor=\"start\">call 40000</text>
+<text x=\"12\" y=\"84\" text-anchor=\"start\">in open 1 0 0 3</text>
+<line x1=\"547\" y1=\"104\" x2=\"309\" y2=\"104\" stroke=\"#000\" marker-end=\"url(#head)\"/>
+<text x=\"428\" y=\"99\" text-anchor=\"middle\">CHANNEL ACTIVATION</text>
+<text x=\"12\" y=\"124\" text-anchor=\"start\">2</text>
+<line x1=\"309\" y1=\"124\" x2=\"547\" y2=\"124\" stroke=\"#000\" marker-end=\"url(#head)\"/>
+<text x=\"428\" y=\"119\" text-anchor=\"middle\">ACK &amp; frame</text>
+<rect x=\"493\" y=\"132\" width=\"108\" height=\"16\" fill=\"#fff\" stroke=\"#000\"/>
+<text x=\"547\" y=\"144\" text-anchor=\"middle\">look 1 -&gt; done</text>
+<rect x=\"647\" y=\"152\" width=\"52\" height=\"16\" fill=\"#fff\" stroke=\"#000\"/>
+<text x=\"673\" y=\"164\" text-anchor=\"middle\">itself</text>
 </svg>
 ";
 
@@ -171,6 +179,7 @@ const SVG: &str =
 fn a_chart_is_drawn(rt: HostRuntime) -> Result<(), Fail> {
     let rows = rows_of(rt.alloc(), ROWS)?;
     let chart = Chart {
+        title: "a <run>",
         lanes: LANES,
         rows: &rows,
         bars: BARS,
@@ -197,9 +206,10 @@ fn missing(
     Ok(None)
 }
 
-/// Between two lanes twenty letters of an arrow's text have room, at the first and the last lane nineteen of a note; forty
+/// Between two lanes fourteen letters of an arrow's text have room, at the first and the last lane nineteen of a note; forty
 /// of a heading have room, seventeen of a lane's name, twelve of a bar's text, sixty of what the bars are.
 const LONG: Chart<'_> = Chart {
+    title: "",
     lanes: &[
         Lane {
             name: "seventeen letters",
@@ -216,7 +226,7 @@ const LONG: Chart<'_> = Chart {
             shape: Shape::Arrow {
                 from: 0,
                 to: 1,
-                text: "twenty of letters >>",
+                text: "letters, 14 >>",
             },
         },
         Row {
@@ -224,7 +234,7 @@ const LONG: Chart<'_> = Chart {
             shape: Shape::Arrow {
                 from: 1,
                 to: 0,
-                text: "twenty-one of letters",
+                text: "fifteen letters",
             },
         },
         Row {
@@ -232,7 +242,7 @@ const LONG: Chart<'_> = Chart {
             shape: Shape::Arrow {
                 from: 0,
                 to: 1,
-                text: "seventeen lettersé<>",
+                text: "the lettersé<>",
             },
         },
         Row {
@@ -240,6 +250,7 @@ const LONG: Chart<'_> = Chart {
             shape: Shape::Note {
                 lane: 0,
                 text: "nineteen of letters",
+                frame: Frame::Thin,
             },
         },
         Row {
@@ -247,6 +258,7 @@ const LONG: Chart<'_> = Chart {
             shape: Shape::Note {
                 lane: 1,
                 text: "twenty letters of it",
+                frame: Frame::Thin,
             },
         },
     ],
@@ -254,6 +266,7 @@ const LONG: Chart<'_> = Chart {
         Bar {
             first: 0,
             last: 0,
+            goes_on: false,
             side: Side::Right,
             track: 0,
             text: "twelve of it",
@@ -261,6 +274,7 @@ const LONG: Chart<'_> = Chart {
         Bar {
             first: 1,
             last: 1,
+            goes_on: false,
             side: Side::Right,
             track: 0,
             text: "thirteen of..",
@@ -276,9 +290,9 @@ const CUT: &[&str] = &[
     ">eighteen of let..</text>",
     ">forty of letters stand in this heading..</text>",
     ">one more of letters stands in this hea..</text>",
-    ">twenty of letters &gt;&gt;</text>",
-    ">twenty-one of lett..</text>",
-    ">seventeen letters..</text>",
+    ">letters, 14 &gt;&gt;</text>",
+    ">fifteen lett..</text>",
+    ">the letters..</text>",
     ">nineteen of letters</text>",
     ">twenty letters of..</text>",
     ">twelve of it</text>",
@@ -295,18 +309,21 @@ fn a_text_that_lacks_room_ends_in_two_dots(rt: HostRuntime) -> Result<(), Fail> 
 
 /// A note at a lane and bars along rows that are not there, one of them far at the right.
 const OUTSIDE: Chart<'_> = Chart {
+    title: "",
     lanes: &[],
     rows: &[Row {
         heading: "",
         shape: Shape::Note {
             lane: u32::MAX,
             text: "",
+            frame: Frame::Thin,
         },
     }],
     bars: &[
         Bar {
             first: u32::MAX,
             last: 0,
+            goes_on: false,
             side: Side::Left,
             track: 0,
             text: "call 1",
@@ -314,6 +331,7 @@ const OUTSIDE: Chart<'_> = Chart {
         Bar {
             first: 0,
             last: u32::MAX,
+            goes_on: false,
             side: Side::Right,
             track: u32::MAX,
             text: "call 2",
@@ -325,9 +343,9 @@ const OUTSIDE: Chart<'_> = Chart {
 
 /// The note stands where the first lane would; a bar at the right ends with the last row.
 const AT_THE_EDGE: &[&str] = &[
-    " width=\"4294967295\" height=\"100\" ",
-    "<text x=\"204\" y=\"64\" text-anchor=\"middle\"></text>\n",
-    "y=\"52\" width=\"11\" height=\"18\" fill=\"url(#dotted)\"",
+    " width=\"4294967295\" height=\"120\" ",
+    "<text x=\"204\" y=\"84\" text-anchor=\"middle\"></text>\n",
+    "y=\"72\" width=\"11\" height=\"18\" fill=\"url(#dotted)\"",
 ];
 
 #[test]
@@ -360,6 +378,7 @@ fn missing_of_many(
 ) -> Result<Option<&'static str>, AllocError> {
     let rows = alike(alloc, rows)?;
     let chart = Chart {
+        title: "",
         lanes: &[Lane {
             name: "lane",
             room: 0,
@@ -369,6 +388,7 @@ fn missing_of_many(
             Bar {
                 first: 758,
                 last: 762,
+                goes_on: false,
                 side: Side::Left,
                 track: 0,
                 text: "call 1",
@@ -376,6 +396,7 @@ fn missing_of_many(
             Bar {
                 first: 759,
                 last: 760,
+                goes_on: false,
                 side: Side::Right,
                 track: 0,
                 text: "call 2",
@@ -389,34 +410,34 @@ fn missing_of_many(
 
 /// Names above the first page, above the second and below the last; the last row of the first page, and the one behind.
 const PAGES: &[&str] = &[
-    " width=\"429\" height=\"920\" ",
-    "<text x=\"225\" y=\"42\" text-anchor=\"middle\">lane</text>\n",
-    "<text x=\"225\" y=\"862\" text-anchor=\"middle\">lane</text>\n",
-    "<text x=\"225\" y=\"910\" text-anchor=\"middle\">lane</text>\n",
-    "<text x=\"12\" y=\"844\" text-anchor=\"start\">row</text>\n",
-    "<text x=\"12\" y=\"884\" text-anchor=\"start\">row</text>\n",
+    " width=\"429\" height=\"940\" ",
+    "<text x=\"225\" y=\"62\" text-anchor=\"middle\">lane</text>\n",
+    "<text x=\"225\" y=\"882\" text-anchor=\"middle\">lane</text>\n",
+    "<text x=\"225\" y=\"930\" text-anchor=\"middle\">lane</text>\n",
+    "<text x=\"12\" y=\"864\" text-anchor=\"start\">row</text>\n",
+    "<text x=\"12\" y=\"904\" text-anchor=\"start\">row</text>\n",
 ];
 
 /// The last row of a column, its lane, and the part of a bar there; the first row of the next column, its lane, and the other
 /// parts of the bars, with their texts between them and the lane.
 const COLUMNS: &[&str] = &[
-    " width=\"858\" height=\"15640\" ",
-    "<line x1=\"225\" y1=\"46\" x2=\"225\" y2=\"15618\" stroke=\"#000\"/>\n",
-    "<text x=\"225\" y=\"15630\" text-anchor=\"middle\">lane</text>\n",
-    "<rect x=\"129\" y=\"15572\" width=\"11\" height=\"38\" fill=\"url(#hatched)\" stroke=\"#000\"/>\n",
-    "<line x1=\"121\" y1=\"15580\" x2=\"129\" y2=\"15580\" stroke=\"#000\"/>\n",
-    "<text x=\"12\" y=\"15604\" text-anchor=\"start\">row</text>\n",
-    "<line x1=\"429\" y1=\"0\" x2=\"429\" y2=\"15640\" stroke=\"#000\" stroke-dasharray=\"1 5\"/>\n",
-    "<line x1=\"654\" y1=\"46\" x2=\"654\" y2=\"78\" stroke=\"#000\"/>\n",
-    "<text x=\"654\" y=\"42\" text-anchor=\"middle\">lane</text>\n",
-    "<text x=\"654\" y=\"90\" text-anchor=\"middle\">lane</text>\n",
-    "<rect x=\"558\" y=\"52\" width=\"11\" height=\"18\" fill=\"url(#hatched)\" stroke=\"#000\"/>\n",
-    "<line x1=\"569\" y1=\"60\" x2=\"574\" y2=\"60\" stroke=\"#000\" stroke-dasharray=\"2 2\"/>\n",
-    "<text x=\"578\" y=\"64\" text-anchor=\"start\">call 1</text>\n",
-    "<rect x=\"734\" y=\"52\" width=\"11\" height=\"18\" fill=\"url(#dotted)\" stroke=\"#000\"/>\n",
-    "<line x1=\"729\" y1=\"60\" x2=\"734\" y2=\"60\" stroke=\"#000\" stroke-dasharray=\"2 2\"/>\n",
-    "<text x=\"725\" y=\"64\" text-anchor=\"end\">call 2</text>\n",
-    "<text x=\"441\" y=\"64\" text-anchor=\"start\">row</text>\n",
+    " width=\"858\" height=\"15660\" ",
+    "<line x1=\"225\" y1=\"66\" x2=\"225\" y2=\"15638\" stroke=\"#000\"/>\n",
+    "<text x=\"225\" y=\"15650\" text-anchor=\"middle\">lane</text>\n",
+    "<rect x=\"129\" y=\"15592\" width=\"11\" height=\"38\" fill=\"url(#hatched)\" stroke=\"#000\"/>\n",
+    "<line x1=\"121\" y1=\"15600\" x2=\"129\" y2=\"15600\" stroke=\"#000\"/>\n",
+    "<text x=\"12\" y=\"15624\" text-anchor=\"start\">row</text>\n",
+    "<line x1=\"429\" y1=\"0\" x2=\"429\" y2=\"15660\" stroke=\"#000\" stroke-dasharray=\"1 5\"/>\n",
+    "<line x1=\"654\" y1=\"66\" x2=\"654\" y2=\"98\" stroke=\"#000\"/>\n",
+    "<text x=\"654\" y=\"62\" text-anchor=\"middle\">lane</text>\n",
+    "<text x=\"654\" y=\"110\" text-anchor=\"middle\">lane</text>\n",
+    "<rect x=\"558\" y=\"72\" width=\"11\" height=\"18\" fill=\"url(#hatched)\" stroke=\"#000\"/>\n",
+    "<line x1=\"569\" y1=\"80\" x2=\"574\" y2=\"80\" stroke=\"#000\" stroke-dasharray=\"2 2\"/>\n",
+    "<text x=\"578\" y=\"84\" text-anchor=\"start\">call 1</text>\n",
+    "<rect x=\"734\" y=\"72\" width=\"11\" height=\"18\" fill=\"url(#dotted)\" stroke=\"#000\"/>\n",
+    "<line x1=\"729\" y1=\"80\" x2=\"734\" y2=\"80\" stroke=\"#000\" stroke-dasharray=\"2 2\"/>\n",
+    "<text x=\"725\" y=\"84\" text-anchor=\"end\">call 2</text>\n",
+    "<text x=\"441\" y=\"84\" text-anchor=\"start\">row</text>\n",
 ];
 
 #[test]
@@ -433,6 +454,7 @@ fn from_757(last: u32, track: u32, text: &'static str) -> Bar<'static> {
     Bar {
         first: 757,
         last,
+        goes_on: false,
         side: Side::Left,
         track,
         text,
@@ -441,16 +463,17 @@ fn from_757(last: u32, track: u32, text: &'static str) -> Bar<'static> {
 
 /// Each bar that goes on behind row 759 has its text in a row of its own, that which ends first in the first.
 const IN_ROWS_OF_THEIR_OWN: &[&str] = &[
-    " y=\"64\" text-anchor=\"start\">call 2</text>\n",
-    " y=\"84\" text-anchor=\"start\">call 4</text>\n",
-    " y=\"104\" text-anchor=\"start\">call 1</text>\n",
-    " y=\"124\" text-anchor=\"start\">call 3</text>\n",
+    " y=\"84\" text-anchor=\"start\">call 2</text>\n",
+    " y=\"104\" text-anchor=\"start\">call 4</text>\n",
+    " y=\"124\" text-anchor=\"start\">call 1</text>\n",
+    " y=\"144\" text-anchor=\"start\">call 3</text>\n",
 ];
 
 #[test]
 fn texts_of_bars_that_go_on_do_not_cover_one_another(rt: HostRuntime) -> Result<(), Fail> {
     let rows = alike(rt.alloc(), 768)?;
     let chart = Chart {
+        title: "",
         lanes: &[Lane {
             name: "lane",
             room: 0,
@@ -473,14 +496,15 @@ fn texts_of_bars_that_go_on_do_not_cover_one_another(rt: HostRuntime) -> Result<
 
 /// The first two of the bars that go on have their texts in the two rows of the last column.
 const IN_TWO_ROWS: &[&str] = &[
-    " y=\"64\" text-anchor=\"start\">call 8</text>\n",
-    " y=\"84\" text-anchor=\"start\">call 1</text>\n",
+    " y=\"84\" text-anchor=\"start\">call 8</text>\n",
+    " y=\"104\" text-anchor=\"start\">call 1</text>\n",
 ];
 
 #[test]
 fn a_bar_that_is_too_short_for_its_text_goes_on_without(rt: HostRuntime) -> Result<(), Fail> {
     let rows = alike(rt.alloc(), 762)?;
     let chart = Chart {
+        title: "",
         lanes: &[],
         rows: &rows,
         bars: &[
@@ -501,5 +525,96 @@ fn a_bar_that_is_too_short_for_its_text_goes_on_without(rt: HostRuntime) -> Resu
     let svg = chart.to_string(rt.alloc())?;
     let onward = svg.as_str().matches("text-anchor=\"start\">call ").count();
     equals_at(&rt, onward, 2, svg.as_str());
+    Ok(())
+}
+
+/// A lane without more room than is always there.
+fn lane(name: &'static str) -> Lane<'static> {
+    Lane { name, room: 0 }
+}
+
+/// A message that the second of three lanes passes on, from the third to the first; and what is marked at the third.
+const MARKED: &[Row<'_>] = &[
+    Row {
+        heading: "",
+        shape: Shape::Relayed {
+            from: 2,
+            by: 1,
+            to: 0,
+            text: "DATA REQUEST",
+            onward: "COMMAND",
+        },
+    },
+    Row {
+        heading: "",
+        shape: Shape::Note {
+            lane: 2,
+            text: "no",
+            frame: Frame::Thick,
+        },
+    },
+];
+
+/// The lanes are at 12 + 80, and 126 behind one another.
+const TWO_ARROWS: &[&str] = &[
+    "<line x1=\"344\" y1=\"84\" x2=\"218\" y2=\"84\" stroke=\"#000\" marker-end=\"url(#head)\"/>\n",
+    "<text x=\"281\" y=\"79\" text-anchor=\"middle\">DATA REQUEST</text>\n",
+    "<line x1=\"218\" y1=\"84\" x2=\"92\" y2=\"84\" stroke=\"#000\" marker-end=\"url(#head)\"/>\n",
+    "<text x=\"155\" y=\"79\" text-anchor=\"middle\">COMMAND</text>\n",
+    "<rect x=\"332\" y=\"92\" width=\"24\" height=\"16\" fill=\"#fff\" stroke=\"#000\" stroke-width=\"3\"/>\n",
+];
+
+#[test]
+fn a_message_that_is_passed_on_has_two_arrows_and_a_mark_a_thick_frame(
+    rt: HostRuntime,
+) -> Result<(), Fail> {
+    let chart = Chart {
+        title: "",
+        lanes: &[lane("mobile"), lane("station 0"), lane("controller")],
+        rows: MARKED,
+        bars: &[],
+        left: "",
+        right: "",
+    };
+    let missing = missing(rt.alloc(), chart, TWO_ARROWS)?;
+    holds_at(&rt, missing.is_none(), missing);
+    Ok(())
+}
+
+/// A bar that goes on from an earlier picture, up to this row, on this track.
+fn going_on(last: u32, track: u32, text: &'static str) -> Bar<'static> {
+    Bar {
+        first: 0,
+        last,
+        goes_on: true,
+        side: Side::Left,
+        track,
+        text,
+    }
+}
+
+/// The texts stand between the bars and the lanes, each in a row of its own: behind 12, three letters of 7, 96, two bars of 16,
+/// and 4.
+const GOING_ON: &[&str] = &[
+    "<text x=\"165\" y=\"84\" text-anchor=\"start\">call 1</text>\n",
+    "<text x=\"165\" y=\"104\" text-anchor=\"start\">call 2</text>\n",
+];
+
+#[test]
+fn a_bar_goes_on_from_an_earlier_picture(rt: HostRuntime) -> Result<(), Fail> {
+    let rows = alike(rt.alloc(), 3)?;
+    let chart = Chart {
+        title: "",
+        lanes: &[lane("lane")],
+        rows: &rows,
+        bars: &[going_on(1, 0, "call 1"), going_on(5, 1, "call 2")],
+        left: "undone",
+        right: "",
+    };
+    let missing = missing(rt.alloc(), chart, GOING_ON)?;
+    holds_at(&rt, missing.is_none(), missing);
+    let svg = chart.to_string(rt.alloc())?;
+    let texts = svg.as_str().matches(">call ").count();
+    equals_at(&rt, texts, 2, svg.as_str());
     Ok(())
 }

@@ -91,8 +91,12 @@ pub fn opened<
 fn given<A: Allocator>(item: Item<A>) -> Option<Inbound<A>> {
     match item.given {
         Given::Input(input) => Some(input),
-        Given::Attach | Given::Set(_) | Given::HangUp(_) | Given::Ask(_) | Given::MobileOf { .. } =>
-            None,
+        Given::Attach
+        | Given::Set(_)
+        | Given::HangUp(_)
+        | Given::Ask(_)
+        | Given::MobileOf { .. }
+        | Given::Restart(_) => None,
     }
 }
 

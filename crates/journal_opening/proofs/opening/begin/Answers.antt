@@ -4,12 +4,10 @@ use Rattle.std.proofs.lemmas.Grind.{common_steps}
 use Rattle.journal_opening.proofs.Beginnings.{began}
 use Rattle.journal_opening.proofs.opening.begin.Goals as goal
 
-pub returns : goal.returns
-returns g c =
+pub returns-clause-begins : goal.returns-clause-begins
+returns-clause-begins g c =
     let head = c.in-Ok.head in
     let same : c.as_bytes.result.now ≡ string_bytes head = grind (arith, common_steps) in
-    record {
-      begins = began g.R.File.Write.contents c.args.site_sum c.args.site.value (string_bytes head) c.as_bytes.result.now c.in_ok-journal.journal
-          c.in_ok-book.book c.in_ok-book.ensures.empty (IsUtf8-string_bytes head) c.in-Ok.ensures.site c.in-Ok.ensures.leads same
-          c.in_ok-journal.ensures.file c.in_ok-journal.ensures.last c.in_ok-journal.ensures.waiting;
-    }
+    began g.R.File.Write.contents c.args.site_sum c.args.site.value (string_bytes head) c.as_bytes.result.now c.in_ok-journal.journal
+    c.in_ok-book.book c.in_ok-book.ensures.empty (IsUtf8-string_bytes head) c.in-Ok.ensures.site c.in-Ok.ensures.leads same
+    c.in_ok-journal.ensures.file c.in_ok-journal.ensures.last c.in_ok-journal.ensures.waiting

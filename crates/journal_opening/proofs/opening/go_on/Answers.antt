@@ -4,15 +4,13 @@ use Rattle.std.proofs.lemmas.Grind.{common_steps}
 use Rattle.journal_opening.specs.Openings.{GoesOn}
 use Rattle.journal_opening.proofs.opening.go_on.Goals as goal
 
-pub returns : goal.returns
-returns g c =
+pub returns-clause-goes_on : goal.returns-clause-goes_on
+returns-clause-goes_on g c =
     let octets = c.in_ok-octets.octets in
     let same : c.as_slice.result.now ≡ octets.items = grind (arith, common_steps) in
-    record {
-      goes_on = IfOk-weaker c.go_on_with.result _ _
-          (λ on it. (
-            octets.items,
-            c.in_ok-octets.ensures.read,
-            subst (λ o. GoesOn g.R.File.Write.contents c.args.site_sum c.args.site.value c.args.number o on.0 on.1) same it,
-          )) c.go_on_with.ensures.goes_on;
-    }
+    IfOk-weaker c.go_on_with.result _ _
+    (λ on it. (
+      octets.items,
+      c.in_ok-octets.ensures.read,
+      subst (λ o. GoesOn g.R.File.Write.contents c.args.site_sum c.args.site.value c.args.number o on.0 on.1) same it,
+    )) c.go_on_with.ensures.goes_on

@@ -5,7 +5,7 @@ use Rattle.journal_files.proofs.journal.Journal.remove_old.Given as goal
 -- the oldest have gone so far, and nothing else changes
 abbrev pub invariant-loop-number : goal.invariant-loop-number
 invariant-loop-number g l = record {
-  spans : OldestGo (spans_of l.fn.self) (spans_of l.self);
+  spans : OldestGo (keep_of l.fn.self) (spans_of l.fn.self) (spans_of l.self);
   file : file_of l.self ≡ file_of l.fn.self;
   last : last_of l.self ≡ last_of l.fn.self;
   waiting : waiting_of l.self ≡ waiting_of l.fn.self;

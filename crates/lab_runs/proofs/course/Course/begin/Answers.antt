@@ -1,6 +1,6 @@
 use Rattle.std.proofs.Common.{refl}
 use Rattle.std.proofs.lemmas.Result.{on_ok_weaker}
-use Rattle.lab_script.specs.declared.script.Given.TheVariants.{Attach, Set, HangUp, Ask, MobileOf}
+use Rattle.lab_script.specs.declared.script.Given.TheVariants.{Attach, Set, HangUp, Ask, MobileOf, Restart}
 use Rattle.lab_runs.proofs.CourseFacts.{follows_input, follows_silent, follows_as, stayed}
 use Rattle.lab_runs.proofs.course.Course.begin.Goals as goal
 
@@ -28,3 +28,7 @@ pub returns-in-MobileOf-clause-follows : goal.returns-in-MobileOf-clause-follows
 returns-in-MobileOf-clause-follows g c =
     on_ok_weaker c.set_mobile.result
     (follows_silent c.args.item (MobileOf c.in-MobileOf.call c.in-MobileOf.habit) c.args.self.now c.set_mobile.new.self c.requires.there c.in-MobileOf.is (λ s. refl)) c.set_mobile.ensures.went
+
+pub returns-in_ok-restart-in-Restart-clause-follows : goal.returns-in_ok-restart-in-Restart-clause-follows
+returns-in_ok-restart-in-Restart-clause-follows g c =
+    follows_silent c.args.item (Restart c.in-Restart.restart) c.args.self.now c.restart.new.self c.requires.there c.in-Restart.is (λ s. refl) c.in_ok-restart-in-Restart.ensures.went

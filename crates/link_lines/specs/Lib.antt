@@ -1,0 +1,5 @@
+pub mod Faults
+pub mod Laws
+pub mod Lines
+pub mod Text
+pub mod Words
