@@ -2,8 +2,9 @@
 //!
 //! No clause says what is printed: tests show it.
 use crate::absences::has_absences_alone;
+use crate::name_flaws::{FlawedName, say_flawed_names, tell_flawed_name};
 use crate::script_files::worse;
-use crate::script_notes::{Effects, say_idle_settings, say_never};
+use crate::script_notes::{Effects, say_idle_settings, say_never, say_slipped};
 use crate::site_files::SiteTexts;
 use idle_settings::{Cause, Idle};
 use lab_runs::run::Status;
@@ -22,9 +23,11 @@ pub(crate) struct Numbered<'a> {
 
 /// What is known of a script's lines before it is run.
 #[derive(Drop)]
-pub(crate) struct Marks {
+pub(crate) struct Marks<'a> {
     /// The numbers of comments that look like expectations, and aren't.
     pub slipped: Vec<usize>,
+    /// Names of comments that are misspelt, or seem to be.
+    pub names: Vec<FlawedName<'a>>,
     /// The number of the line up to which it is run, which can't be read.
     pub unread: Option<usize>,
 }
@@ -32,7 +35,7 @@ pub(crate) struct Marks {
 /// What of a script makes that it isn't met, whatever comes of it.
 #[derive(Drop)]
 pub(crate) struct Flaws<'a> {
-    marks: Marks,
+    marks: Marks<'a>,
     /// Lines that come to nothing, and shouldn't.
     idle: Vec<Idle>,
     /// The numbers of lines that have an effect, where a comment says that they have none.
@@ -58,13 +61,27 @@ fn flaws_in(alloc: Global, script: &str, idle: Vec<Idle>) -> Result<Vec<Idle>, A
     Ok(idle)
 }
 
+/// Says which comments of a script have slipped, and which of their names are misspelt, or seem to be, and answers them.
+pub(crate) fn say_marks<'a, E: Write>(
+    alloc: Global,
+    path: &str,
+    script: &'a str,
+    errors: &mut E,
+) -> Result<Marks<'a>, LabFault> {
+    Ok(Marks {
+        slipped: say_slipped(alloc, path, script, errors)?,
+        names: say_flawed_names(alloc, path, script, errors)?,
+        unread: None,
+    })
+}
+
 /// Says which flaws a script has beside comments that have slipped, and answers all.
 pub(crate) fn say_flaws<'a, E: Write>(
     alloc: Global,
     path: &str,
     sites: &SiteTexts,
     script: &'a str,
-    marks: Marks,
+    marks: Marks<'a>,
     errors: &mut E,
 ) -> Result<Flaws<'a>, LabFault> {
     let Effects { idle, unmeant } = say_idle_settings(alloc, path, sites, script, errors)?;
@@ -108,6 +125,9 @@ fn tell_flaws(
 ) -> Result<(), LabFault> {
     for line in &flaws.marks.slipped {
         reasons.tell(Miss::Slipped(*line))?;
+    }
+    for name in &flaws.marks.names {
+        tell_flawed_name(alloc, *name, reasons)?;
     }
     if let Some(line) = flaws.marks.unread {
         reasons.tell(Miss::Unreadable(line))?;
