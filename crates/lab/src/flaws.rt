@@ -21,6 +21,15 @@ pub(crate) struct Numbered<'a> {
     pub name: &'a str,
 }
 
+/// A line up to which a script is run, as it can't be read.
+#[derive(Clone, Copy, Debug, PartialEq, Eq)]
+pub(crate) struct UnreadLine {
+    /// Its number, counted from 1.
+    pub number: usize,
+    /// Whether it has a name that stands for nothing because a comment before it isn't met.
+    pub is_unmet: bool,
+}
+
 /// What is known of a script's lines before it is run.
 #[derive(Drop)]
 pub(crate) struct Marks<'a> {
@@ -28,8 +37,8 @@ pub(crate) struct Marks<'a> {
     pub slipped: Vec<usize>,
     /// Names of comments that are misspelt, or seem to be.
     pub names: Vec<FlawedName<'a>>,
-    /// The number of the line up to which it is run, which can't be read.
-    pub unread: Option<usize>,
+    /// The line up to which it is run, where there is one.
+    pub unread: Option<UnreadLine>,
 }
 
 /// What of a script makes that it isn't met, whatever comes of it.
@@ -38,6 +47,8 @@ pub(crate) struct Flaws<'a> {
     marks: Marks<'a>,
     /// Lines that come to nothing, and shouldn't.
     idle: Vec<Idle>,
+    /// Those of them with which it isn't met.
+    flawed: Vec<Idle>,
     /// The numbers of lines that have an effect, where a comment says that they have none.
     unmeant: Vec<usize>,
     /// Lines that nothing can meet, or miss.
@@ -54,11 +65,11 @@ fn is_flaw(lines: &[&str], idle: Idle) -> bool {
 }
 
 /// Those of the lines of a script that come to nothing which make that it isn't met.
-fn flaws_in(alloc: Global, script: &str, idle: Vec<Idle>) -> Result<Vec<Idle>, AllocError> {
+fn flaws_in(alloc: Global, script: &str, idle: &[Idle]) -> Result<Vec<Idle>, AllocError> {
     let lines = lines_of(alloc, script)?;
-    let mut idle = idle;
-    idle.retain(|line| is_flaw(&lines, *line));
-    Ok(idle)
+    let mut flawed = Vec::from_slice(alloc, idle)?;
+    flawed.retain(|line| is_flaw(&lines, *line));
+    Ok(flawed)
 }
 
 /// Says which comments of a script have slipped, and which of their names are misspelt, or seem to be, and answers them.
@@ -87,7 +98,8 @@ pub(crate) fn say_flaws<'a, E: Write>(
     let Effects { idle, unmeant } = say_idle_settings(alloc, path, sites, script, errors)?;
     Ok(Flaws {
         marks,
-        idle: flaws_in(alloc, script, idle)?,
+        flawed: flaws_in(alloc, script, &idle)?,
+        idle,
         unmeant,
         never: say_never(alloc, path, sites, script, errors)?,
     })
@@ -117,6 +129,14 @@ fn tell_never(
     reasons.tell(miss)
 }
 
+/// Tells lines of a script that come to nothing.
+fn tell_idle(idle: &[Idle], reasons: &mut Reasons<Global>) -> Result<(), LabFault> {
+    for line in idle {
+        reasons.tell(Miss::Idle(line.line))?;
+    }
+    Ok(())
+}
+
 /// Tells the flaws of a script, as reasons why it isn't met.
 fn tell_flaws(
     alloc: Global,
@@ -130,11 +150,9 @@ fn tell_flaws(
         tell_flawed_name(alloc, *name, reasons)?;
     }
     if let Some(line) = flaws.marks.unread {
-        reasons.tell(Miss::Unreadable(line))?;
+        reasons.tell(Miss::Unreadable(line.number))?;
     }
-    for setting in &flaws.idle {
-        reasons.tell(Miss::Idle(setting.line))?;
-    }
+    tell_idle(&flaws.flawed, reasons)?;
     for line in &flaws.unmeant {
         reasons.tell(Miss::Differs {
             line: *line,
@@ -148,14 +166,13 @@ fn tell_flaws(
     Ok(())
 }
 
-/// How a test ends, by whether its script has flaws, and by how its run ended. One that isn't run to its end is refused.
+/// How a test ends, by whether its script has flaws, and by how its run ended. One that isn't run to its end is refused, but where
+/// that is because a comment isn't met.
 fn ended_by(flaws: &Flaws<'_>, has_flaws: bool, run: Status) -> Status {
-    if flaws.marks.unread.is_some() {
-        Status::Refused
-    } else if has_flaws {
-        worse(Status::Differs, run)
-    } else {
-        run
+    match flaws.marks.unread {
+        Some(line) if !line.is_unmet || run != Status::Differs => Status::Refused,
+        Some(_) | None if has_flaws => worse(Status::Differs, run),
+        Some(_) | None => run,
     }
 }
 
@@ -175,6 +192,8 @@ pub(crate) fn test_flawed<W: Write>(
     let has_flaws = !reasons.is_empty();
     let run = test_run(alloc, alloc, first, peer, script, &mut reasons)?;
     let ended = ended_by(flaws, has_flaws, run);
+    // an input that comes to nothing may be why something else doesn't come
+    tell_idle(&flaws.idle, &mut reasons)?;
     match ended {
         Status::Done => print_met(out, test.number, test.name)?,
         Status::Differs | Status::Refused => {

@@ -1,6 +1,6 @@
 //! Tests and records of scripts in files.
 use crate::files::text_of;
-use crate::flaws::{Marks, Numbered, say_flaws, say_marks, test_flawed};
+use crate::flaws::{Marks, Numbered, UnreadLine, say_flaws, say_marks, test_flawed};
 use crate::junit::Report;
 use crate::kept::{Kept, is_folder_there, keep_run};
 use crate::octet_causes::with_decimal_causes;
@@ -53,13 +53,19 @@ struct TestedScript<'a> {
 }
 
 /// The text of a script that is tested: with values in the place of its names, up to the line that can't be read because of one; and
-/// the number of that line.
-fn tested_of<'a>(named: Option<&'a Named>, script: &'a str) -> (&'a str, Option<usize>) {
+/// that line.
+fn tested_of<'a>(named: Option<&'a Named>, script: &'a str) -> (&'a str, Option<UnreadLine>) {
     let Some(named) = named else {
         return (script, None);
     };
     match &named.unnamed {
-        Some(unnamed) => (unnamed.front.as_str(), Some(unnamed.line)),
+        Some(unnamed) => {
+            let line = UnreadLine {
+                number: unnamed.line,
+                is_unmet: unnamed.expected.is_some(),
+            };
+            (unnamed.front.as_str(), Some(line))
+        }
         None => (named.text.as_str(), None),
     }
 }

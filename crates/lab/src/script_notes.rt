@@ -4,7 +4,7 @@
 //! No clause says what the lines hold: tests show it.
 use crate::absences::{expects_a_line, is_meant};
 use crate::site_files::SiteTexts;
-use crate::slips::is_slip;
+use crate::slips::{is_idle_mark, is_slip};
 use expectations::names_no_site;
 use idle_settings::{Cause, Found, Idle, Taken, Texts, idle_settings};
 use lab_runs::run::read_sites;
@@ -29,6 +29,8 @@ fn slip_of(line: &str, is_slip: bool) -> Option<&'static str> {
         Some(
             "this looks like the name of a site, but isn't one: write \"#% site PATH\", \"#% peer PATH\" or \"#% cells N full\"",
         )
+    } else if is_slip && is_idle_mark(line) {
+        Some("this looks like \"#- idle\", but isn't")
     } else if is_slip {
         Some("this looks like an expectation, but isn't one: write \"#> \", \"#! \" or \"#= \"")
     } else {

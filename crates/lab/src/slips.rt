@@ -40,7 +40,12 @@ fn behind_signs(line: &str) -> &str {
     line.trim_start_matches(|character: char| character == '#' || is_unseen(character))
 }
 
-/// Whether what stands behind number signs is `- idle` in another form.
+/// Whether what stands behind the number signs of a comment is `- idle`, in any form.
+pub(crate) fn is_idle_mark(line: &str) -> bool {
+    is_idle(behind_signs(line))
+}
+
+/// Whether what stands behind number signs is `- idle`, in any form.
 fn is_idle(text: &str) -> bool {
     match text.strip_prefix("-") {
         Some(word) => word
