@@ -6,7 +6,7 @@ use crate::name_flaws::{FlawedName, say_flawed_names, tell_flawed_name};
 use crate::script_files::worse;
 use crate::script_notes::{Effects, say_idle_settings, say_never, say_slipped};
 use crate::site_files::SiteTexts;
-use idle_settings::{Cause, Idle};
+use idle_settings::{Cause, Idle, Lack};
 use lab_runs::run::Status;
 use run_listeners::LabFault;
 use std::alloc::{AllocError, Global};
@@ -137,6 +137,17 @@ fn tell_idle(idle: &[Idle], reasons: &mut Reasons<Global>) -> Result<(), LabFaul
     Ok(())
 }
 
+/// Tells lines of a script that come to nothing because a site lacks what they name: they may be why something else doesn't come.
+fn tell_causes(idle: &[Idle], reasons: &mut Reasons<Global>) -> Result<(), LabFault> {
+    for line in idle {
+        match line.cause {
+            Cause::Input(Lack::Call(_)) | Cause::Unused(_) | Cause::Again(_) | Cause::Unmet(_) => {}
+            Cause::Input(_) | Cause::Lacks(_) => reasons.tell(Miss::Idle(line.line))?,
+        }
+    }
+    Ok(())
+}
+
 /// Tells the flaws of a script, as reasons why it isn't met.
 fn tell_flaws(
     alloc: Global,
@@ -192,8 +203,7 @@ pub(crate) fn test_flawed<W: Write>(
     let has_flaws = !reasons.is_empty();
     let run = test_run(alloc, alloc, first, peer, script, &mut reasons)?;
     let ended = ended_by(flaws, has_flaws, run);
-    // an input that comes to nothing may be why something else doesn't come
-    tell_idle(&flaws.idle, &mut reasons)?;
+    tell_causes(&flaws.idle, &mut reasons)?;
     match ended {
         Status::Done => print_met(out, test.number, test.name)?,
         Status::Differs | Status::Refused => {
