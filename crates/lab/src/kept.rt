@@ -41,12 +41,14 @@ fn unused(alloc: Global, name: String, names: &[String]) -> Result<String, Alloc
     if !is_among(names, &name) {
         return Ok(name);
     }
-    // so many numbers that one isn't used
-    for number in 2..names.len().saturating_add(3) {
+    let mut number = 2_usize;
+    // the name itself is one of these, so one number at least isn't used
+    for _ in names {
         let numbered = format!(in alloc; "{name}-{number}")?;
         if !is_among(names, &numbered) {
             return Ok(numbered);
         }
+        number = number.saturating_add(1);
     }
     Ok(name)
 }
