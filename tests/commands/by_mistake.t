@@ -46,6 +46,7 @@ So do these: other blanks than a blank, `#- idle` in another form, and a comment
   > #\0302\0240> ..
   > #\0343\0200\0200! out
   > #\0342\0200\0213= calls 9
+  > #\01= calls 9
   > #-idle
   > # - Idle
   > #- idle\0302\0240
@@ -53,7 +54,7 @@ So do these: other blanks than a blank, `#- idle` in another form, and a comment
   > # a note\0342\0200\0250#= calls 9
   > END
   $ ./lab test examples/two_cells.toml blank?.txt 2>/dev/null
-  1..8
+  1..9
   not ok 1 - blank1.txt
   # line 3 looks like an expectation, but isn't one
   not ok 2 - blank2.txt
@@ -69,6 +70,8 @@ So do these: other blanks than a blank, `#- idle` in another form, and a comment
   not ok 7 - blank7.txt
   # line 3 looks like an expectation, but isn't one
   not ok 8 - blank8.txt
+  # line 3 looks like an expectation, but isn't one
+  not ok 9 - blank9.txt
   # line 3 looks like an expectation, but isn't one
   [1]
   $ printf 'open 1 0 0 3\n#= calls 1\n# - idle stations\n# a note\r# b\n' >notes.txt

@@ -200,6 +200,14 @@ said on standard error alone.
   # expected: call 1 $targt
   # came: $targt stands nowhere else; the nearest name is $target
   [1]
+  $ sed 's/internal $target/internal $targex/; s/tagret/target/' misspelt.txt >defined.txt
+  $ ./lab test examples/two_cells.toml defined.txt 2>/dev/null
+  1..1
+  not ok 1 - defined.txt
+  # line 5
+  # expected: event take 1 internal $targex -> done
+  # came: $targex stands nowhere else; the nearest name is $target
+  [1]
   $ printf 'open 1 0 0 3\n#> event open 1 $channel -> done\n#> ..\n' >lone.txt
   $ ./lab test examples/two_cells.toml lone.txt
   lone.txt:2: $channel stands nowhere else: * says the same

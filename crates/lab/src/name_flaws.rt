@@ -14,7 +14,7 @@ use tested_scripts::{Miss, Reasons, expected_in, is_script_line, lines_of};
 enum Flaw {
     /// It stands behind `#!`, and no comment before it expects something with it.
     Unbound,
-    /// It stands nowhere else, and is nearly another name.
+    /// It stands nowhere else, and is nearly another name, which stands before it, or twice or more.
     Misspelt,
     /// It stands nowhere else: `*` says the same.
     Lone,
@@ -29,7 +29,7 @@ pub(crate) struct FlawedName<'a> {
     text: &'a str,
     name: &'a str,
     flaw: Flaw,
-    /// The name that is nearest to it, of those that comments before the line expect something with.
+    /// The name that it may be: the nearest of those that comments before the line expect something with, or one that is nearly it.
     nearest: Option<&'a str>,
 }
 
@@ -164,24 +164,47 @@ pub(crate) fn nearest_of<'a>(lines: &[&'a str], name: &str) -> Option<&'a str> {
     best
 }
 
-/// What is wrong with a name of a comment, behind some of a script's lines; nothing if all is well. `nearest` is the nearest of those.
-fn flaw_of(
-    lines: &[&str],
-    before: &[&str],
+/// A name of a line that is nearly another, and stands twice or more in a script's lines.
+fn near_in<'a>(lines: &[&str], line: &'a str, name: &str) -> Option<&'a str> {
+    line.split('$')
+        .skip(1)
+        .filter_map(|piece| name_of(piece))
+        .find(|found| is_near(*found, name) && 1 < count_of(lines, *found))
+}
+
+/// A name that is nearly another, and stands twice or more in a script's lines.
+fn near_of<'a>(lines: &[&'a str], name: &str) -> Option<&'a str> {
+    lines
+        .iter()
+        .filter(|line| says_something(**line))
+        .find_map(|line| near_in(lines, *line, name))
+}
+
+/// What is wrong with a name of a comment, behind some of a script's lines, and the name that it may be; nothing if all is well.
+fn flaw_of<'a>(
+    lines: &[&'a str],
+    before: &[&'a str],
     comment: &str,
     name: &str,
-    nearest: Option<&str>,
-) -> Option<Flaw> {
+) -> Option<(Flaw, Option<&'a str>)> {
+    let nearest = nearest_of(before, name);
     if refused_in(comment).is_some() {
         let is_bound = is_bound(before, name);
-        return if is_bound { None } else { Some(Flaw::Unbound) };
+        return if is_bound {
+            None
+        } else {
+            Some((Flaw::Unbound, nearest))
+        };
     }
     if 1 < count_of(lines, name) {
         return None;
     }
-    match nearest {
-        Some(nearest) if is_near(nearest, name) => Some(Flaw::Misspelt),
-        Some(_) | None => Some(Flaw::Lone),
+    match nearest
+        .filter(|found| is_near(*found, name))
+        .or(near_of(lines, name))
+    {
+        Some(near) => Some((Flaw::Misspelt, Some(near))),
+        None => Some((Flaw::Lone, None)),
     }
 }
 
@@ -194,8 +217,7 @@ fn add_flawed<'a>(
     found: &mut Vec<FlawedName<'a>>,
 ) -> Result<(), AllocError> {
     let (before, _) = lines.split_at(place.min(lines.len()));
-    let nearest = nearest_of(before, name);
-    if let Some(flaw) = flaw_of(lines, before, comment, name, nearest) {
+    if let Some((flaw, nearest)) = flaw_of(lines, before, comment, name) {
         found.push(FlawedName {
             line: place.saturating_add(1),
             text: comment,

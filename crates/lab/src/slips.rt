@@ -10,9 +10,20 @@ use tested_scripts::expected_in;
 /// Whether a character can't be seen, or looks like a blank.
 fn is_unseen(character: char) -> bool {
     character.is_whitespace()
+        || character.is_control()
         || matches!(
             character,
-            '\u{ad}' | '\u{180e}' | '\u{200b}'..='\u{200f}' | '\u{2060}' | '\u{feff}'
+            '\u{ad}'
+                | '\u{115f}'..='\u{1160}'
+                | '\u{180b}'..='\u{180f}'
+                | '\u{200b}'..='\u{200f}'
+                | '\u{202a}'..='\u{202e}'
+                | '\u{2060}'..='\u{206f}'
+                | '\u{2800}'
+                | '\u{3164}'
+                | '\u{fe00}'..='\u{fe0f}'
+                | '\u{feff}'
+                | '\u{ffa0}'
         )
 }
 
