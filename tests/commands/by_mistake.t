@@ -148,6 +148,24 @@ A cause may be in hexadecimal, as in lines of a script. It is shown as it is pri
   1..1
   ok 1 - hexadecimal.txt
 
+So it may beside a name.
+
+  $ cat >beside.txt <<'END'
+  > sim
+  > refuse 1 1 3
+  > open 1 0 0 3
+  > handover 1 1
+  > #> ..
+  > #> in abis 1 1 CHANNEL ACTIVATION NACK tn=$timeslot cause=0x20; equipment failure
+  > #> ..
+  > open 2 1 1 $timeslot
+  > #> event open 2 1/1/3 -> *
+  > #> ..
+  > END
+  $ ./lab test examples/two_cells.toml beside.txt
+  1..1
+  ok 1 - beside.txt
+
 A line that names what the site lacks may be why something else doesn't come. So it is told where the script isn't met.
 
   $ printf 'open 1 1 2 3\n#> ..\nopen 2 0 0 3\n#= calls 2\n' >lacks.txt

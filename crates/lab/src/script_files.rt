@@ -87,19 +87,20 @@ fn test_over<R: Files + AllocGlobal, W: Write, E: Write>(
         mut marks,
     } = script;
     let has_peer = sites.peer().is_some();
-    let named = say_names(alloc, test.name, sites, text, errors)?;
-    let (front, unread) = tested_of(named.as_ref(), text);
-    let tested = with_decimal_causes(alloc, front)?;
+    // before names are found: what a comment expects beside a name has its causes in decimal then, as the messages that come
+    let text = with_decimal_causes(alloc, text)?;
+    let named = say_names(alloc, test.name, sites, &text, errors)?;
+    let (tested, unread) = tested_of(named.as_ref(), &text);
     marks.unread = unread;
-    let flaws = say_flaws(alloc, test.name, sites, &tested, marks, errors)?;
-    let status = test_flawed(alloc, sites, &tested, test, &flaws, out)?;
+    let flaws = say_flaws(alloc, test.name, sites, tested, marks, errors)?;
+    let status = test_flawed(alloc, sites, tested, test, &flaws, out)?;
     if status == Status::Refused {
         // the sites were read before
-        say_line(alloc, test.name, &tested, has_peer, naming, errors)?;
+        say_line(alloc, test.name, tested, has_peer, naming, errors)?;
     }
     if status == Status::Differs
         && let Some(kept) = kept
-        && !keep_run(rt, kept, test, sites, &tested, errors)?
+        && !keep_run(rt, kept, test, sites, tested, errors)?
     {
         return Ok(Status::Refused);
     }
