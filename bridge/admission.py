@@ -83,13 +83,12 @@ class Queue:
                 yield waiting.popleft()
 
 
-@keeps("queues", wired=("air", "relay", "times", "neci", "most_awaited", "reserve"))
+@keeps("queues", wired=("air", "relay", "times", "config"))
 class Admission:
     """The requests of all cells. `air` has a request begin a call, or refuses it."""
 
     def __init__(self, air, times, config):
-        self.air, self.relay, self.times = air, air.relay, times
-        self.neci, self.most_awaited, self.reserve = config.broadcast.neci, config.awaited, config.emergency_reserve
+        self.air, self.relay, self.times, self.config = air, air.relay, times, config
         self.queues: collections.defaultdict = collections.defaultdict(Queue)
 
     def resume(self):
@@ -99,6 +98,19 @@ class Admission:
                 self.await_late(cell)
             if self.times.was_set(("requests", cell)):
                 self.await_turn(cell)
+
+    def renumber(self, numbers):
+        """Cells have other numbers. Requests for those that go are dropped."""
+        before = dict(self.queues)
+        self.queues.clear()
+        for cell, queue in before.items():
+            for name in ("late", "requests"):
+                self.times.forget((name, cell))
+            if (number := numbers.get(cell, cell)) is not None:
+                self.queues[number] = queue
+        for cell in [it for it, queue in self.queues.items() if queue]:
+            self.await_late(cell)
+            self.await_turn(cell)
 
     def add(self, station, request):
         """A mobile asks for a channel. Its turn comes behind all that is read now, so that an emergency call among that is first.
@@ -140,20 +152,21 @@ class Admission:
         cell, is_emergency = waiting.station.cell, waiting.request.cause == Cause.EMERGENCY
         if not self.relay.a_side.is_there:
             return Rejected.NO_CENTRE
-        if self.relay.talks.awaited(cell, is_emergency) >= self.most_awaited:
+        if self.relay.talks.awaited(cell, is_emergency) >= self.config.awaited:
             return Rejected.AWAITED
         return None if self.rates(cell, waiting.request.cause) else Rejected.KEPT
 
     def rates(self, cell, cause):
         """The rates that will do for a request, the first one first; none where each channel that it would get is kept for
         emergency calls."""
-        rates = [FULL, HALF] if self.neci == 1 and cause.takes_half else [FULL]
+        rates = [FULL, HALF] if self.config.broadcast.neci == 1 and cause.takes_half else [FULL]
         return [it for it in rates if cause == Cause.EMERGENCY or not self.is_kept(cell, it)]
 
     def is_kept(self, cell, rate):
         """Whether the channel of a rate that the controller would give now, the lowest that is free, is kept for emergency calls,
         which take full channels. Where none is free, that is for the controller to say."""
-        if not (self.reserve and self.relay.site):
+        reserve = self.config.emergency_reserve
+        if not (reserve and self.relay.site):
             return False
         channels = self.relay.site[cell]
         used = [it for it in self.relay.calls.channels if it.cell == cell]
@@ -161,7 +174,7 @@ class Admission:
             return False
         lowest = min(free, key=lambda it: (it.trx, it.number & TIMESLOT, it.number))
         before, after = (len(free_in(channels["full"], it)) for it in (used, [*used, lowest]))
-        return after < min(before, self.reserve)
+        return after < min(before, reserve)
 
     def asked(self, cell):
         """The controller is asked for a channel of a cell: the others wait."""
@@ -182,9 +195,9 @@ class Rejections:
     """Requests that are rejected, of which one message tells up to four."""
 
     def __init__(self, times, send, seconds):
-        """`send` is given a station and a message for the mobiles of its cell; `seconds` is how long a mobile isn't to ask again.
+        """`send` is given a station and a message for the mobiles of its cell; `seconds` has how long a mobile isn't to ask again.
         """
-        self.times, self.send, self.seconds = times, send, round(min(seconds, 255))
+        self.times, self.send, self.seconds = times, send, seconds
         # by cell the station of the first, and all requests
         self.waiting: dict[int, tuple] = {}
 
@@ -203,6 +216,11 @@ class Rejections:
         elif len(requests) == 1:
             self.await_others(station)
 
+    def tell_all(self):
+        """All mobiles are told at once."""
+        for station, _ in list(self.waiting.values()):
+            self.tell(station)
+
     def await_others(self, station):
         """Others may be told with the first."""
         self.times.set(("rejections", station.cell), TOGETHER, lambda: self.tell(station))
@@ -211,4 +229,4 @@ class Rejections:
         """Mobiles of a cell are told."""
         self.times.forget(("rejections", station.cell))
         _, requests = self.waiting.pop(station.cell)
-        self.send(station, access.rejection(requests, self.seconds))
+        self.send(station, access.rejection(requests, round(min(self.seconds["t3122"], 255))))

@@ -10,10 +10,12 @@ import shutil
 import time
 
 import bssmap
+import reload
 import rsl
 from calls import OFF, ON, PENDING, Event
 from journal import Journal, JournalError
 from page import keeps
+from reload import Reload
 from tell import Level, Since, say, shown
 from trial import Trial
 from watch import Watch
@@ -37,9 +39,13 @@ UNNOTED = re.compile(rb".*; the journal ends, and the controller goes on")
 class Upgrade:
     """A program that is to take a controller's place."""
 
-    def __init__(self, operator, program, old):
-        """`old` is the command until now."""
-        self.operator, self.program, self.old = operator, program, old
+    # whether the old one can take its place again once it goes on
+    can_go_back = True
+
+    def __init__(self, again, operator, program):
+        self.again, self.operator, self.program = again, operator, program
+        self.name, self.title = f"upgrade {program}", program
+        self.old = old = again.command
         self.new = [program, *old[old.index("live") if "live" in old else 1 :]]
         self.is_tried = False
         # behind which line it goes on, once it does; it has taken the place once it has done another one
@@ -50,21 +56,58 @@ class Upgrade:
         say(text)
         self.operator.tell(text)
 
+    def prepare(self):
+        """Its command is to be tried."""
+
+    def command(self):
+        """That command."""
+        return self.again.kept.given(self.new)
+
+    def objection(self):
+        """Why it can't be started in the controller's place; None where that can be tried."""
+        if not self.program or not shutil.which(self.program):
+            return "no program that can be run"
+        return self.again.objection()
+
+    def await_end(self):
+        """The controller ends now, for it."""
+
+    def conflict(self):
+        """Why it isn't to be started now that the controller has ended."""
+
+    def begin(self):
+        """It is about to be started."""
+        self.again.command = self.new
+
+    def is_decided(self):
+        """Whether the old one can't go on any more."""
+        return False
+
+    def undo(self):
+        """It doesn't take the place."""
+        self.again.command = self.old
+
+    def goes_on(self, line):
+        """It goes on."""
+        self.line = line
+        self.tell(f"{self.title}: goes on behind line {line}")
+
 
 @keeps(
     *("command", "notes", "lost_since", "ended_at", "count", "begun_at", "begun", "vain", "early", "is_new", "has_gone_on"),
     wired=(
         *("bridge", "relay", "times", "most", "journal", "watch", "trial", "trying", "upgrading", "vain_upgrade"),
-        "has_failed",
+        *("has_failed", "kept"),
     ),
 )
 class Again:
     """The controller of a bridge, which may end and be started again."""
 
-    def __init__(self, bridge, command, most, hang):
-        """`most` is how many times it is started again in a minute, `hang` how many seconds it may hang."""
+    def __init__(self, bridge, command, kept, most, hang):
+        """`kept` is what is kept of its site, `most` how many times it is started again in a minute, `hang` how many seconds it may
+        hang."""
         self.bridge, self.relay, self.times = bridge, bridge.relay, bridge.times
-        self.command, self.most = command, most
+        self.command, self.kept, self.most = command, kept, most
         self.journal = Journal.of(command)
         # whether what comes of lines is noted in it; and since when it isn't
         self.notes = self.journal is not None
@@ -75,11 +118,12 @@ class Again:
         self.begun_at, self.begun, self.vain = 0.0, 0, 0
         # how many lines it has printed before it goes on; None where it needn't
         self.early = None
-        # a program that is tried beside it, one that is to take its place, and one that has done so in vain, with the reason
+        # a program or a site that is tried beside it, one that is to take its place, and one that has done so in vain, with the
+        # reason
         self.trial: Trial | None = None
-        self.trying: Upgrade | None = None
-        self.upgrading: Upgrade | None = None
-        self.vain_upgrade: tuple[Upgrade, str] | None = None
+        self.trying: Upgrade | Reload | None = None
+        self.upgrading: Upgrade | Reload | None = None
+        self.vain_upgrade: tuple[Upgrade | Reload, str] | None = None
         # whether the book is one that the bridge hasn't seen yet; and whether a controller has gone on over its journal
         self.is_new, self.has_gone_on = True, False
         # whether the bridge ends since none can go on
@@ -95,7 +139,7 @@ class Again:
         self.begun_at, self.begun, self.early = time.monotonic(), self.relay.line, 0 if is_resuming else None
         self.watch.begin()
         self.notes = self.journal is not None
-        self.bridge.start_core(self.command)
+        self.bridge.start_core(self.kept.given(self.command))
         if is_resuming:
             self.times.set("resume", LONGEST, self.is_too_slow)
             self.watch.await_answer()
@@ -125,7 +169,7 @@ class Again:
             self.resume(int(found[1]))
         except JournalError as error:
             if self.upgrading:
-                say(f"{self.upgrading.program}: {error}, and is killed", Level.ERROR)
+                say(f"{self.upgrading.title}: {error}, and is killed", Level.ERROR)
                 self.bridge.kill_core()
             else:
                 self.fail(str(error))
@@ -171,9 +215,9 @@ class Again:
     def give_again(self):
         """Gives it what it hasn't done yet."""
         relay = self.relay
-        if self.upgrading:
-            self.upgrading.tell(f"{self.upgrading.program}: goes on behind line {relay.line}")
-            self.upgrading.line = relay.line
+        if it := self.upgrading:
+            self.upgrading = it if it.can_go_back else None
+            it.goes_on(relay.line)
         self.tell_vain_upgrade("the old one goes on")
         if relay.log:
             relay.log.note("another controller goes on here, which gathers measurements anew")
@@ -305,7 +349,7 @@ class Again:
         elif self.relay.core:
             self.bridge.finish_core()
 
-    # Another program
+    # Another program, or another site
 
     def is_upgrading(self):
         """Whether another program is to go on, and hasn't done a line yet."""
@@ -320,32 +364,44 @@ class Again:
         return any(it and it.operator is operator for it in (self.trying, upgrading, vain))
 
     def upgrade(self, operator, program):
-        """A program is tried beside the controller; where it would go on with its calls it is to take its place."""
-        it = Upgrade(operator, program, self.command)
-        if why := self.objection(program):
-            operator.tell(f"refused: upgrade {program}: {why}")
-            return
+        """An operator has a program take the controller's place."""
+        it = Upgrade(self, operator, program)
+        if why := it.objection():
+            operator.tell(f"refused: {it.name}: {why}")
+        else:
+            self.try_beside(it)
+
+    def reload(self, operator):
+        """An operator has the controller go on over the site as its file is now, with CONFIG as that is."""
+        reload.begin(self, operator, self.bridge)
+
+    def try_beside(self, it):
+        """A program or a site is tried beside the controller; where that would go on with its calls it is to take its place."""
         try:
-            self.trial = Trial(self.bridge, it.new, self.journal, LONGEST, lambda *found: self.tried(it, *found))
+            it.prepare()
+            self.trial = Trial(self.bridge, it.command(), self.journal, LONGEST, lambda *found: self.tried(it, *found))
         except (OSError, JournalError) as error:
-            it.tell(f"refused: upgrade {program}: it can't be tried: {error}")
+            it.undo()
+            it.tell(f"refused: {it.name}: it can't be tried: {error}")
             return
         self.trying = it
 
     def tried(self, it, problem, line):
-        """A program was tried: what is wrong with it, if anything is, and the line behind which it would go on. The controller may
+        """Something was tried: what is wrong with it, if anything is, and the line behind which it would go on. The controller may
         be gone since."""
         self.trial = self.trying = None
-        if why := problem or self.objection(it.program):
-            it.tell(f"refused: upgrade {it.program}: tried on a copy of the journal: {why}")
+        if why := problem or it.objection():
+            it.undo()
+            it.tell(f"refused: {it.name}: tried on a copy of the journal: {why}")
             return
-        it.tell(f"{it.program}: tried on a copy of the journal: it would go on behind line {line}")
+        it.tell(f"{it.title}: tried on a copy of the journal: it would go on behind line {line}")
         self.replace(it)
 
     def replace(self, it):
-        """The controller ends behind the lines that it has, and a program is started in its place."""
-        self.tell_vain_upgrade(f"the old one doesn't go on: {it.program} takes its place")
+        """The controller ends behind the lines that it has, and another is started in its place."""
+        self.tell_vain_upgrade(f"the old one doesn't go on: {it.title} takes its place")
         self.upgrading = it
+        it.await_end()
         if self.is_paused():
             # none is there that would have to end
             self.times.forget("again")
@@ -357,10 +413,10 @@ class Again:
         self.relay.core.finish()
 
     def tell_vain_upgrade(self, what):
-        """Where a program has taken the controller's place in vain: what becomes of the old one, now that this is so."""
+        """Where something has taken the controller's place in vain: what becomes of the old one, now that this is so."""
         if self.vain_upgrade:
             (it, why), self.vain_upgrade = self.vain_upgrade, None
-            it.tell(f"refused: upgrade {it.program}: {why}, and {what}")
+            it.tell(f"refused: {it.name}: {why}, and {what}")
 
     def unkept(self):
         """Why another bridge couldn't go on with the controller as it is just now; None where it could."""
@@ -376,12 +432,11 @@ class Again:
         """The bridge ends: what is tried does, too."""
         if self.trial:
             self.trial.leave()
+            self.trying.undo()
         self.trial = self.trying = None
 
-    def objection(self, program):
-        """Why a program can't be started in the controller's place; None where that can be tried."""
-        if not program or not shutil.which(program):
-            return "no program that can be run"
+    def objection(self):
+        """Why no other controller can be started in this one's place just now; None where that can be tried."""
         if not self.journal:
             return "the controller has no journal"
         if not self.notes:
@@ -393,17 +448,23 @@ class Again:
         return None
 
     def go_elsewhere(self, it, why):
-        """The controller has ended for another, which is started; or that one has, and why: then the old one is, again. What came of
-        it is told once that goes on."""
+        """The controller has ended for another, which is started; or that one has, and why: then the old one is, again, unless it
+        can't go on any more. What came of it is told once that goes on."""
+        if it.is_decided():
+            self.go_on(f"{it.title}: {why}")
+            return
         if not it.is_tried:
-            it.is_tried, self.command = True, it.new
-            try:
-                self.start()
-                return
-            except OSError as error:
-                why = str(error)
-        self.upgrading, self.command, self.vain_upgrade = None, it.old, (it, why)
-        say(f"{it.program}: {why}, and the old one is started again", Level.WARNING)
+            it.is_tried = True
+            if not (why := it.conflict()):
+                it.begin()
+                try:
+                    self.start()
+                    return
+                except OSError as error:
+                    why = str(error)
+        it.undo()
+        self.upgrading, self.vain_upgrade = None, (it, why)
+        say(f"{it.title}: {why}, and the old one is started again", Level.WARNING)
         self.try_to_start()
 
     # A book of before

@@ -51,7 +51,7 @@ class Air:
         self.cells = config.cells
         self.short = ShortLinks(relay, times, seconds)
         self.admission = Admission(self, times, config)
-        self.rejections = Rejections(times, self.send_common, seconds["t3122"])
+        self.rejections = Rejections(times, self.send_common, seconds)
         self.requests = set()
 
     def resume(self):
@@ -64,6 +64,12 @@ class Air:
                 self.run_t3101(call)
         for it in (self.short, self.admission, self.rejections):
             it.resume()
+
+    def renumber(self, numbers):
+        """Cells are about to have other numbers, or go."""
+        self.rejections.tell_all()
+        self.admission.renumber(numbers)
+        self.requests = {(cell, it) for cell, it in self.requests if numbers.get(cell, cell) == cell}
 
     # A mobile asks for a channel
 

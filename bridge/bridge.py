@@ -14,15 +14,18 @@ import faults
 from again import Again
 from child import begin, kill_all
 from figures import FiguresFile
+from kept_site import octets_of
 from links import Links
 from log import Log
 from operators import QUIET, Client, Standard, Turns
 from page import Unkept, keeps
 from relay import Relay
-from sites import traffic_channels
+from reload import Settings, Unfit
+from sites import cells_of, table_of, traffic_channels, unknown_place
 from stream import Selector, Stream, Times
-from succession import SIGNALS, Begun, Succession, opened, state_in, take_over
+from succession import SIGNALS, Begun, Succession, opened, state_in, sum_of, take_over
 from tell import ERRORS, OUTPUT, Level, say, says_up_to, shown
+from toml_keys import Faults, Table
 
 # How long the controller may take to end, in seconds.
 LAST = 30.0
@@ -40,7 +43,7 @@ STATIONS, OPERATORS = "stations", "operators"
     *("sockets", "clients", "came", "standard", "listeners", "core", "errors", "is_garbled", "is_faulty"),
     wired=(
         *("words", "selector", "times", "relay", "links", "turns", "control", "figures", "again", "succession", "signals"),
-        *("is_ending", "is_killed"),
+        *("is_ending", "is_killed", "settings"),
     ),
 )
 class Bridge:
@@ -51,14 +54,15 @@ class Bridge:
 
     def __init__(self, words, make_relay=Relay):
         """`words` are the settings: `stations`, `seconds`, `bind`, `port`, `log`, `control`, `figures`, `figures_every`,
-        `messages`, `again`, `hang`, `log_level`, and `core`, the controller's command. `arguments` are the command line, and `paths`
-        the files that were read. The controller and standard input are there once it has started."""
+        `messages`, `again`, `hang`, `log_level`, and `core`, the controller's command, with `kept`, what is kept of its site.
+        `arguments` are the command line, and `paths` the files that were read. The controller and standard input are there once it
+        has started."""
         self.words = words
         says_up_to(words.log_level)
         self.selector = Selector()
         self.times = Times()
         self.relay = make_relay(words.stations, self.times, words.seconds)
-        self.relay.tells_messages, self.relay.site = words.messages, traffic_channels(words.core)
+        self.relay.tells_messages, self.relay.site = words.messages, traffic_channels(table_of(words.kept.text))
         self.sockets = {}
         self.links = self.relay.links = Links(self.relay, self.close)
         # the operators at the control socket, and how many have come; and the one at standard input
@@ -73,7 +77,9 @@ class Bridge:
         self.errors: Stream | None = None
         self.succession = self.relay.succession = Succession(self, Begun(words.arguments, words.paths))
         self.signals: tuple[socket.socket, socket.socket] | None = None
-        self.again = self.relay.again = Again(self, words.core, words.again, words.hang)
+        self.again = self.relay.again = Again(self, words.core, words.kept, words.again, words.hang)
+        # what it goes by, of which `reload` takes another
+        self.settings = Settings(words.kept.file, words.kept.text, words.stations)
         # whether all ends, and whether the controller was killed for that; and whether that has printed what none does
         self.is_ending = self.is_killed = self.is_garbled = False
         # whether it ends since it has a fault itself
@@ -108,6 +114,8 @@ class Bridge:
 
     def begin(self):
         """Starts the controller, and hears the operator at standard input."""
+        if self.again.kept.is_edited():
+            say(f"{self.again.kept.file} has changed since the controller was given it: `reload` takes it", Level.WARNING)
         self.again.start()
         self.standard = Standard(self, self.INPUT)
 
@@ -131,6 +139,23 @@ class Bridge:
         self.join_core()
         for it in (self.standard, *self.clients, *self.links.all):
             it.join()
+
+    # Other settings
+
+    def settings_of_files(self):
+        """What the site's file says now; raises Unfit where that can't be taken."""
+        path, faults = self.again.kept.file, Faults()
+        sums, text = {path: sum_of(path)}, octets_of(path)
+        if not table_of(self.settings.text):
+            raise Unfit("what the controller's site was isn't known")
+        if text is None or not (table := table_of(text)):
+            raise Unfit(f"{path}: can't be read, or is no TOML")
+        cells_of(Table(table, "", faults), None, faults)
+        if wrong := unknown_place("it", text, self.words.stations):
+            faults.lines.append(wrong)
+        if faults.lines:
+            raise Unfit("\n".join(f"{path}: {line}" for line in faults.lines))
+        return Settings(path, text, self.words.stations, None, sums)
 
     # The controller
 

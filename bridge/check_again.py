@@ -11,6 +11,7 @@ import time
 
 import rsl
 from harness import FIRST, FOLDER, LIMIT, SECOND, SITE, SLOW, Asker, LeftOut, child, is_kind, must, namespaces, needs
+from journal import Journal
 from network_harness import NOTHING
 from test_controller import record
 
@@ -580,8 +581,9 @@ def lose_lines(journal):
     """Takes lines away that weren't heard: a journal goes on behind them."""
     lines = journal / "lines"
     lines.write_bytes(lines.read_bytes() + b"look\n" * 3)
+    site = b"site %d\n" % Journal(journal).site()
     (journal / f"{0:020}.journal").unlink()
-    (journal / f"{4:020}.journal").write_bytes(b"gofnild journal 1\n" + record(4, [b"site 0\n"]) + record(5, [b"line 5\n"]))
+    (journal / f"{4:020}.journal").write_bytes(b"gofnild journal 1\n" + record(4, [site]) + record(5, [b"line 5\n"]))
 
 
 def remove(journal):

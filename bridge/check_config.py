@@ -112,6 +112,8 @@ def bad_beginning(start, room, program):
     must(status == 1 and "is missing, " in said, f"a record is taken out: {status}, {said}")
     path.write_bytes(octets)
     (room / "site.toml").write_text(site + "# another\n")
+    must(checked(room) == (0, ""), f"a comment is changed: {checked(room)}")
+    (room / "journal.site").unlink()
     status, said = checked(room)
     must(status == 1 and f"{path}: of another site than {room / 'site.toml'}: " in said, f"of another site: {status}, {said}")
     (room / "site.toml").write_text(site)

@@ -219,10 +219,16 @@ def broken_pages(start, room, program):
 
 
 def not_just_now(start, room, program):
-    """Another bridge isn't begun while the controller is away, while one is tried already, nor once the site has changed. Once one
-    goes on, the controller is started again over its journal as always."""
+    """Another bridge isn't begun while the controller is away, nor while one is tried already. Once one goes on, the controller is
+    started again over its journal as always. Where the site's text isn't kept, as without a journal, none is begun once that has
+    changed; where it is, that is no matter."""
     site = room / "site.toml"
     site.write_text(SITE.read_text())
+    bridge = start(core=(program, "live", site))
+    bridge.station(FIRST)
+    site.write_text(SITE.read_text() + "# a comment\n")
+    refused(bridge, "", f"{site} has changed since the bridge began")
+    bridge.end()
     core = (controller(room, program), "live", site, "--journal", "journal")
     bridge = start(*OFTEN, core=core)
     one = bridge.station(FIRST)
@@ -243,7 +249,7 @@ def not_just_now(start, room, program):
     bridge.ask("clear 1")
     bridge.expect("^event released 0/0/3 -> done$")
     site.write_text(SITE.read_text() + "# another comment\n")
-    refused(bridge, "", f"{site} has changed since the bridge began")
+    upgrade(bridge)
     bridge.end()
 
 

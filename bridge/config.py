@@ -5,19 +5,22 @@ import os
 import pathlib
 import tomllib
 
-import site_rest
 from barring import CLASSES
+from kept_site import KeptSite
+from sites import BANDS, cells_of
 from stations import Station
 from timers import OF_NETWORK, OF_STATIONS
 from toml_keys import Faults, Table, shown
 
-# The carriers (ARFCN) of each band (TS 45.005, clause 2).
-BANDS = {900: (1, 124), 1800: (512, 885)}
 # The power control level of each band at which a telephone of the usual class sends as loud as it can: 33 dBm for class 4 of
 # GSM 900, 30 dBm for class 1 of GSM 1800 (TS 45.005, 4.1.1).
 LOUDEST = {900: 5, 1800: 0}
 # A point code as Osmocom writes it: 3, 8 and 3 bits.
 POINT_CODE = r"[0-7]\.([0-9]{1,2}|1[0-9][0-9]|2[0-4][0-9]|25[0-5])\.[0-7]"
+
+
+# What may change while a bridge runs, beside the cells, the stations and the timers.
+TAKEN = ("plmn", "broadcast", "awaited", "emergency_reserve", "pagings", "stations", "text")
 
 
 class ConfigError(Exception):
@@ -67,19 +70,6 @@ class Broadcast:
 
 
 @dataclasses.dataclass
-class Cell:
-    """What the bridge has to know of a cell of the site."""
-
-    number: int
-    lac: int
-    ci: int
-    bcch: int
-    colours: int
-    neighbours: list
-    carriers: list
-
-
-@dataclasses.dataclass
 class Config:
     """All of CONFIG, with the cells of its site."""
 
@@ -97,6 +87,15 @@ class Config:
     emergency_reserve: int
     pagings: int
     cells: list
+    # the text of the site, as octets, and what is kept of it
+    text: bytes
+    kept: KeptSite
+
+    def take(self, other):
+        """Takes what may change while a bridge runs; whoever has the cells has the other ones then."""
+        for name in TAKEN:
+            setattr(self, name, getattr(other, name))
+        self.cells[:] = other.cells
 
 
 def plmn_of(mcc, mnc):
@@ -111,12 +110,18 @@ def point_code(text):
     return first << 11 | second << 3 | third
 
 
-def read_toml(path):
-    """The table of a file."""
+def octets_of(path):
+    """The octets of a file."""
     try:
-        return tomllib.loads(pathlib.Path(path).read_bytes().decode())
+        return pathlib.Path(path).read_bytes()
     except OSError as error:
         raise ConfigError(f"{path}: {error.strerror}") from error
+
+
+def table_of(octets, path):
+    """The table of a file's octets."""
+    try:
+        return tomllib.loads(octets.decode())
     except (UnicodeDecodeError, tomllib.TOMLDecodeError) as error:
         raise ConfigError(f"{path}: is no TOML: {error}") from error
 
@@ -220,37 +225,22 @@ def stations_of(tables, cells, faults):
     return stations
 
 
-def cells_of(site, band, rest):
-    """The cells of a site, of which only what is broadcast is looked at: the controller reads all of it. Faults of the other keys go
-    to `rest`."""
-    low, high = BANDS.get(band, (0, 1023))
-    cells = []
-    for number, table in enumerate(site.tables("cell")):
-        lac, ci = table.whole("lac", 0, 65535), table.whole("ci", 0, 65535)
-        bcch, ncc, bcc = table.whole("bcch", low, high), table.whole("ncc", 0, 7), table.whole("bcc", 0, 7)
-        neighbours = table.whole_list("ba", low, high)
-        tables = table.tables("trx")
-        carriers = [it.whole("arfcn", low, high) for it in tables]
-        site_rest.look_at_cell(table, tables, rest)
-        if None not in (lac, ci, bcch, ncc, bcc, neighbours, *carriers):
-            cells.append(Cell(number, lac, ci, bcch, ncc << 3 | bcc, neighbours, carriers))
-    site_rest.look_at(site, rest)
-    return cells
-
-
-def read(path, is_whole=False):
-    """What CONFIG says; raises ConfigError with a line for each fault, also for those keys of the site that only the controller
-    reads, where `is_whole` asks for that."""
+def read(path, is_edited=False):
+    """What CONFIG says; raises ConfigError with a line for each fault. The site is that which the controller has. Where `is_edited`,
+    it is that of its file now, also with those keys that only the controller reads."""
     path, faults = pathlib.Path(path), Faults()
-    top = Table(read_toml(path), "", faults)
+    top = Table(table_of(octets_of(path), path), "", faults)
     plmn, band = network_of(top.table("network"))
     controller = top.texts("controller", 'the command of a controller without its site, as ["./lab", "live"],')
     name = top.text("site", r"[^\0]+", "the path of a site")
     site, site_faults, rest, cells = path.parent / (name or ""), Faults(), Faults(), []
-    if name and not os.path.isfile(site):
+    kept = KeptSite([*(controller or ()), str(site)])
+    text = b"" if is_edited else kept.text
+    if name and not text and not os.path.isfile(site):
         faults.add("site", "the path of a site, which is a file, is allowed", shown(name))
     elif name:
-        cells = cells_of(Table(read_toml(site), "", site_faults), band, rest)
+        text = text or octets_of(site)
+        cells = cells_of(Table(table_of(text, site), "", site_faults), band, rest)
     abis, timers = top.table("abis"), top.table("timers")
     found = Config(
         [*(controller or ()), str(site)],
@@ -266,10 +256,12 @@ def read(path, is_whole=False):
         top.whole("emergency_reserve", 0, 32, 0),
         top.whole("pagings", 1, 100, 4),
         cells,
+        text or b"",
+        kept,
     )
     for table in (abis, timers, top):
         table.end()
-    of_site = site_faults.lines + (rest.lines if is_whole else [])
+    of_site = site_faults.lines + (rest.lines if is_edited else [])
     if lines := [f"{path}: {it}" for it in faults.lines] + [f"{site}: {it}" for it in of_site]:
         raise ConfigError("\n".join(lines))
     return found

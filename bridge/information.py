@@ -59,7 +59,12 @@ class Information:
     def __init__(self, plmn, broadcast):
         self.plmn, self.broadcast = plmn, broadcast
         # the access classes that are barred, and emergency calls under their bit (barring.py)
-        self.barred = frozenset(broadcast.barred) | (frozenset() if broadcast.emergency else {EMERGENCY})
+        self.barred = self.barred_by(broadcast)
+
+    @staticmethod
+    def barred_by(broadcast):
+        """What CONFIG bars."""
+        return frozenset(broadcast.barred) | (frozenset() if broadcast.emergency else {EMERGENCY})
 
     def common_channels(self):
         """Control Channel Description (10.5.2.11): a centre of release 99, IMSI attach and detach."""

@@ -1,5 +1,6 @@
 """The journal of a controller (docs/JOURNAL.md), as far as the bridge reads it: what came of each line, which the controller
 noted before anything of that left. The controller has looked whether it is whole."""
+import contextlib
 import itertools
 import pathlib
 import re
@@ -15,7 +16,9 @@ SITE = re.compile(rb"site (\d+)\n")
 # Files of a journal, by the number of the line behind which each begins.
 NAME = re.compile(r"(\d{20})\.journal")
 # The options of a controller that have a value behind them.
-VALUED = ("--pcap", "--history", "--journal", "--keep", "--heard", "--journal-lost")
+VALUED = ("--pcap", "--history", "--journal", "--keep", "--heard", "--journal-lost", "--site-changed")
+# More octets than a file has up to the end of its head's first line.
+BEGINNING = 256
 
 
 class JournalError(Exception):
@@ -45,6 +48,16 @@ class Journal:
         except FileNotFoundError:
             return []
         return sorted((int(name[1]), path) for name, path in found if name)
+
+    def site(self):
+        """The checksum of the site in the head of the last file; None where there is no file, or its head can't be read so far."""
+        with contextlib.suppress(OSError):
+            for _, path in self.files()[-1:]:
+                with path.open("rb") as file:
+                    octets = file.read(BEGINNING)
+                found = SITE.match(octets, len(FIRST_LINE) + HEAD)
+                return int(found[1]) if found and octets.startswith(FIRST_LINE + RECORD) else None
+        return None
 
     def records(self, path, last):
         """The records of a file up to the last line, head included: the number of each, and its body. What stands behind may be a

@@ -15,14 +15,13 @@ MOST_STRANGERS = 256
 PARTS = 4
 
 
-@keeps("all", "behind", wired=("relay", "times", "close", "patience", "sayings", "unread", "due"))
+@keeps("all", "behind", wired=("relay", "times", "close", "sayings", "unread", "due"))
 class Links:
     """All links."""
 
     def __init__(self, relay, close):
         """`close` is told a link whose socket is to be closed."""
         self.relay, self.times, self.close = relay, relay.times, close
-        self.patience = relay.seconds["patience"]
         self.sayings = Sayings(relay.times)
         self.all = {}
         # those that have frames left for their next turn
@@ -31,6 +30,11 @@ class Links:
         # now
         self.unread = []
         self.due: collections.deque = collections.deque()
+
+    @property
+    def patience(self):
+        """For how many seconds a link may be silent."""
+        return self.relay.seconds["patience"]
 
     def begin(self, stream, address, peer):
         """A link begins. Where too many are strangers, the oldest of them ends."""

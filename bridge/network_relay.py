@@ -2,6 +2,7 @@
 from __future__ import annotations
 
 import collections
+import dataclasses
 import re
 import typing
 
@@ -112,6 +113,30 @@ class NetworkRelay(Relay):
         self.times.forget(("clearing", talk.number))
         self.talks.forget(talk)
 
+    # Other settings
+
+    def take_settings(self, settings, numbers):
+        """Takes other settings: stations are sent what differs in what their mobiles are told."""
+        before = {station.unit: self.messages_of(station) for station in self.stations.values() if station.link}
+        self.air.renumber(numbers)
+        super().take_settings(settings, numbers)
+        new, was_barred = settings.config, self.information.barred_by(self.config.broadcast)
+        self.config.take(new)
+        self.seconds.update(new.timers)
+        self.plmn = self.information.plmn = new.plmn
+        self.information.broadcast = new.broadcast
+        if (barred := self.information.barred_by(new.broadcast)) != was_barred:
+            self.information.barred = barred
+        for station in self.stations.values():
+            for message in self.messages_of(station) if station.link else ():
+                if message not in before.get(station.unit, ()):
+                    self.pass_on(station, message)
+        return dataclasses.replace(settings, config=dataclasses.replace(self.config, cells=list(self.config.cells)))
+
+    def messages_of(self, station):
+        """What a station's mobiles are told."""
+        return list(self.information.messages(self.config.cells[station.cell], station.trx))
+
     # Operators
 
     def give(self, line, giver="bridge", answered=None):
@@ -144,7 +169,7 @@ class NetworkRelay(Relay):
         """What is known of who may ask for a channel, in one line."""
         admission = self.air.admission
         waiting = sum(admission.waiting(it.number) for it in self.config.cells)
-        kept = f"kept for emergency calls in each cell: {admission.reserve}"
+        kept = f"kept for emergency calls in each cell: {self.config.emergency_reserve}"
         return f"access: {self.barring.known()}; {kept}; requests that wait: {waiting}"
 
     def help(self):
@@ -277,7 +302,7 @@ class NetworkRelay(Relay):
     def come(self, station, link):
         """A station is there: it is told what its cell's mobiles are to know."""
         super().come(station, link)
-        for message in self.information.messages(self.config.cells[station.cell], station.trx):
+        for message in self.messages_of(station):
             self.pass_on(station, message)
 
     def broadcast(self):

@@ -34,6 +34,14 @@ class Notices:
         """Nothing more is told of something for a while."""
         self.times.set(name, QUIET, lambda: None)
 
+    def renumber(self, numbers):
+        """Cells have other numbers, or go."""
+        before = dict(self.untold)
+        self.untold.clear()
+        for cell, count in before.items():
+            if (number := numbers.get(cell, cell)) is not None:
+                self.untold[number] = count
+
     def full(self, cell):
         """A channel of a cell was asked for, and none of the rate was free."""
         if self.times.is_set(("full", cell)):

@@ -21,7 +21,7 @@ QUIET = 0.5
 MOST_AT_ONCE = 16
 # Lines that the controller isn't asked: views, of which each may have thousands of lines, and others.
 VIEWS = (b"help", b"stations", b"calls", b"network")
-OWN = (*VIEWS, b"upgrade", b"bridge", b"reopen", b"watch", b"bar", b"unbar", *SIMULATED)
+OWN = (*VIEWS, b"upgrade", b"bridge", b"reload", b"reopen", b"watch", b"bar", b"unbar", *SIMULATED)
 # How many lines of an input may come before it is known of which call it is.
 MOST_LINES = 100
 # How many digits the number of a call may have.
@@ -33,6 +33,7 @@ watch: from here on all that the controller prints; watch CALL: what comes of th
 summary: what came so far, counted in all and for each cell: calls, attempts at handover and their ends, messages, faults
 upgrade PROGRAM: the controller ends, and PROGRAM goes on with its calls, if it does so on a copy of the journal
 bridge upgrade [PROGRAM]: PROGRAM, or the program of now, goes on as the bridge, if it takes what this one knows
+reload: CONFIG and the site are taken as their files are now, and calls go on; it tells what changes, and what can't so
 reopen: the log is opened anew, as after it was moved away
 help: this
 open CALL CELL TRX TN: a call begins on a channel, TN as 3, or 3/0 and 3/1 for halves of a timeslot
@@ -137,6 +138,8 @@ class Operator:
             self.relay.succession.ask(self, os.fsdecode(line.strip()[len(b"bridge") :].strip()[len(b"upgrade") :].strip()))
         elif words[0] == b"upgrade":
             self.relay.again.upgrade(self, os.fsdecode(line.strip()[len(words[0]) :].strip()))
+        elif words == [b"reload"]:
+            self.relay.again.reload(self)
         elif words == [b"reopen"]:
             log = self.relay.log
             self.tell(log.open_anew() if log else "refused: reopen: there is no log")

@@ -3,6 +3,7 @@ its events arm timers, and what stations leave open is closed in their place."""
 from __future__ import annotations
 
 import collections
+import dataclasses
 import re
 import typing
 
@@ -15,8 +16,10 @@ from lost import LostCalls
 from notices import Notices
 from operators import HELP, Operator
 from page import keeps
+from reload import renumbered
 from reports import report_in
 from rsl import Channel
+from sites import table_of, traffic_channels
 from stations import ACTIVATING, CLOSING, LEAVING, ON, RELEASING, Station, Use
 from tallies import Tallies
 from tell import Level, Since, plain, say, show, shown
@@ -215,6 +218,34 @@ class Relay:
     def give_message(self, cell, trx, message, giver="bridge", answered=None):
         """Gives the controller a message of a station."""
         self.give(b"abis %d %d %s" % (cell, trx, message.hex().encode()), giver, answered)
+
+    # Other settings
+
+    def take_settings(self, settings, numbers):
+        """Takes other settings, and gives back what is taken of them. `numbers` has for each number of a cell that which the cell has
+        now; None where it goes. What waits for the controller is about the old numbers."""
+        given, self.given = self.given, collections.deque()
+        for line, giver, answered in given:
+            self.count_given(line, giver, -1)
+            line = renumbered(line, numbers)
+            self.count_given(line, giver, 1)
+            self.given.append((line, giver, answered))
+        self.tallies.renumber(numbers)
+        self.notices.renumber(numbers)
+        self.take_stations({it.unit: it for it in settings.stations})
+        self.site = traffic_channels(table_of(settings.text))
+        return settings
+
+    def take_stations(self, wanted):
+        """Takes other stations, by their units. Those that are there stay, whatever their cell is now."""
+        for unit in [it for it in self.stations if it not in wanted]:
+            if link := self.stations.pop(unit).link:
+                link.fail("its unit isn't named any more")
+        for unit, it in wanted.items():
+            station = self.stations.setdefault(unit, dataclasses.replace(it))
+            station.cell, station.trx, station.addresses = it.cell, it.trx, it.addresses
+        self.places.clear()
+        self.places.update({(station.cell, station.trx): station for station in self.stations.values()})
 
     # Lines of the controller
 

@@ -111,6 +111,15 @@ class Tallies:
             return "HANDOVER FAILURE"
         return rsl.NAMES.get(rsl.kind(self.message), "another message")
 
+    def renumber(self, numbers):
+        """Cells have other numbers, or go: so do their counts."""
+        for counts in (it for it in vars(self).values() if isinstance(it, collections.Counter)):
+            before = dict(counts)
+            counts.clear()
+            for (cell, *labels), count in before.items():
+                if (number := numbers.get(cell, cell)) is not None:
+                    counts[number, *labels] = count
+
     # What the bridge does itself
 
     def expired(self, cell, timer):

@@ -1,7 +1,7 @@
 #!/usr/bin/env python3
 """A controller for tests that has a journal (docs/JOURNAL.md), around one that has none.
 
-    bridge/test_controller.py PROGRAM live SITE --journal FOLDER
+    bridge/test_controller.py PROGRAM live SITE --journal FOLDER [--site-changed OLD]
 
 PROGRAM is a build of bsc_lab. Each line is given to `PROGRAM live SITE`, and what came of it is noted in FOLDER before it
 is printed; so are the lines themselves, by which a new PROGRAM gets the book that the last one had. FOLDER/plan says, a
@@ -9,7 +9,9 @@ line each, where the controller is killed: `N STAGE`, at line N: `given` (it isn
 (nothing is printed), `torn` (half of its first line is), or how many of its lines are printed; or that it is `stopped` once it
 has noted the line, `computes` without end, or waits in a `disk` until somebody opens FOLDER/disk and closes it; that it prints
 what no controller does in front of it (`garbled`); or that it `ends` behind it as if nothing more was to come. What has
-happened is taken out of it. While there is FOLDER/hold it doesn't begin, or go on.
+happened is taken out of it. While there is FOLDER/hold it doesn't begin, or go on. A journal that is of the site OLD it goes on with
+where each line has the same answer over SITE, and each channel of a call is the same one in both; it is killed behind that, before it
+says that it goes on, where there is FOLDER/die.
 """
 import contextlib
 import os
@@ -20,9 +22,11 @@ import subprocess
 import sys
 import threading
 import time
+import tomllib
 import zlib
 
 sys.dont_write_bytecode = True
+from calls import Calls, Event
 from journal import Journal, JournalError
 
 # Stages at which it isn't killed.
@@ -38,6 +42,29 @@ def record(number, lines):
     head = b"record %020d %020d" % (number, len(body))
     head += b" %08x" % zlib.crc32(body)
     return head + b" %08x\n" % zlib.crc32(head + b" ") + body
+
+
+def place_of(site, channel):
+    """What a channel is known by in a site: what its cell is known by, its carrier, and whether its timeslot has such channels."""
+    cell = site["cell"][channel.cell]
+    trx = cell["trx"][channel.trx]
+    timeslots = trx["tch" if channel.number & 0xF8 == 0x08 else "half"]
+    return [cell[it] for it in ("lac", "ci", "bcch", "ncc", "bcc")], trx["arfcn"], channel.number & 7 in timeslots
+
+
+def differing(old, new, answers):
+    """The first channel of a call that differs between two sites, whose book these answers lead to; None where none does."""
+    calls, sites = Calls(), [tomllib.loads(it.decode()) for it in (old, new)]
+    for line in (line for lines in answers for line in lines):
+        if event := Event.of(line.decode().rstrip("\n")):
+            calls.follow(event)
+    for channel in (it for call in calls.calls.values() for it in (call.serving, call.target) if it):
+        try:
+            if len({repr(place_of(site, channel)) for site in sites}) > 1:
+                return channel
+        except LookupError:
+            return channel
+    return None
 
 
 class Live:
@@ -79,7 +106,8 @@ class Live:
 class Controller:
     """The controller with its journal."""
 
-    def __init__(self, program, site, folder):
+    def __init__(self, program, site, folder, old=None):
+        """`old` is the file of the site of before, if that was another."""
         self.folder = folder
         folder.mkdir(exist_ok=True)
         files = sorted(folder.glob("*.journal"))
@@ -87,16 +115,37 @@ class Controller:
         # how long the journal is without a record that was cut
         self.whole = folder / "whole"
         self.live = Live(program, site)
-        is_resuming = bool(files)
+        is_resuming, text = bool(files), pathlib.Path(site).read_bytes()
         if not is_resuming:
-            self.journal.write_bytes(b"gofnild journal 1\n" + record(0, [b"site 0\n"]))
+            self.journal.write_bytes(b"gofnild journal 1\n" + record(0, [b"site %d\n" % zlib.crc32(text)]))
         known = self.lines.read_bytes().split(b"\n")[:-1] if self.lines.exists() else list(self.noted())
         self.live.told = len(known)
-        for line in known:
-            self.live.answer(line)
+        answers = [self.live.answer(line) for line in known]
         self.wait()
+        if (it := Journal(folder).site()) != zlib.crc32(text):
+            self.go_on_over(text, old and pathlib.Path(old).read_bytes(), it, answers)
         if is_resuming:
             os.write(2, b"resumed after line %d: channels=? calls=?\n" % self.live.count)
+
+    def go_on_over(self, text, old, known, answers):
+        """Goes on over a site whose text isn't that of which the journal is."""
+        if old is None or zlib.crc32(old) != known:
+            refuse(f"{self.journal}: of another site")
+        for number, lines in Journal(self.folder).lines_behind(0, sys.maxsize):
+            if lines != [it.rstrip(b"\n") for it in answers[number - 1] if not it.startswith(b"summary ")]:
+                refuse(f"{self.journal}: record {number} has another reply over the new site")
+        if channel := differing(old, text, answers):
+            refuse(f"{self.journal}: channel {channel}, which a call has, is another one in the new site")
+        octets = self.journal.read_bytes()
+        head = len(b"gofnild journal 1\n")
+        end = head + 67 + int(octets[head + 28 : head + 48])
+        body = [b"site %d\n" % zlib.crc32(text), *octets[head + 67 : end].splitlines(keepends=True)[1:]]
+        new = self.folder / "begun.tmp"
+        new.write_bytes(octets[:head] + record(int(octets[head + 7 : head + 27]), body) + octets[end:])
+        new.rename(self.journal)
+        if (die := self.folder / "die").exists():
+            die.unlink()
+            os.kill(os.getpid(), signal.SIGKILL)
 
     def noted(self):
         """The lines that the journal has whole, where it is a copy; what couldn't be read is told apart from nothing alone."""
@@ -175,12 +224,22 @@ class Controller:
             self.kill()
 
 
+def refuse(why):
+    """It can't go on."""
+    print(f"journal: {why}", file=sys.stderr)
+    sys.exit(2)
+
+
 def main():
     program, _live, *words = sys.argv[1:]
-    at = words.index("--journal")
-    _, folder = words[at : at + 2]
-    (site,) = words[:at] + words[at + 2 :]
-    controller = Controller(program, site, pathlib.Path(folder))
+    found = {}
+    for name in ("--journal", "--site-changed"):
+        if name in words:
+            at = words.index(name)
+            _, found[name] = words[at : at + 2]
+            del words[at : at + 2]
+    (site,) = words
+    controller = Controller(program, site, pathlib.Path(found["--journal"]), found.get("--site-changed"))
     for line in sys.stdin.buffer:
         controller.take(line.rstrip(b"\n"))
     os.write(1, controller.live.end())
