@@ -218,6 +218,8 @@ class Again:
         if it := self.upgrading:
             self.upgrading = it if it.can_go_back else None
             it.goes_on(relay.line)
+        # as where the bridge has begun with another site than the last one had
+        self.kept.take()
         self.tell_vain_upgrade("the old one goes on")
         if relay.log:
             relay.log.note("another controller goes on here, which gathers measurements anew")

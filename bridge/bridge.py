@@ -54,15 +54,15 @@ class Bridge:
 
     def __init__(self, words, make_relay=Relay):
         """`words` are the settings: `stations`, `seconds`, `bind`, `port`, `log`, `control`, `figures`, `figures_every`,
-        `messages`, `again`, `hang`, `log_level`, and `core`, the controller's command, with `kept`, what is kept of its site.
-        `arguments` are the command line, and `paths` the files that were read. The controller and standard input are there once it
+        `messages`, `again`, `hang`, `log_level`, and `core`, the controller's command, with the `text` of its site, and `kept`, what
+        is kept of that. `arguments` are the command line, and `paths` the files that were read. The controller and standard input are there once it
         has started."""
         self.words = words
         says_up_to(words.log_level)
         self.selector = Selector()
         self.times = Times()
         self.relay = make_relay(words.stations, self.times, words.seconds)
-        self.relay.tells_messages, self.relay.site = words.messages, traffic_channels(table_of(words.kept.text))
+        self.relay.tells_messages, self.relay.site = words.messages, traffic_channels(table_of(words.text))
         self.sockets = {}
         self.links = self.relay.links = Links(self.relay, self.close)
         # the operators at the control socket, and how many have come; and the one at standard input
@@ -79,7 +79,7 @@ class Bridge:
         self.signals: tuple[socket.socket, socket.socket] | None = None
         self.again = self.relay.again = Again(self, words.core, words.kept, words.again, words.hang)
         # what it goes by, of which `reload` takes another
-        self.settings = Settings(words.kept.file, words.kept.text, words.stations)
+        self.settings = Settings(words.kept.file, words.text, words.stations)
         # whether all ends, and whether the controller was killed for that; and whether that has printed what none does
         self.is_ending = self.is_killed = self.is_garbled = False
         # whether it ends since it has a fault itself
@@ -114,7 +114,7 @@ class Bridge:
 
     def begin(self):
         """Starts the controller, and hears the operator at standard input."""
-        if self.again.kept.is_edited():
+        if self.again.kept.is_edited() and self.again.kept.first_text is None:
             say(f"{self.again.kept.file} has changed since the controller was given it: `reload` takes it", Level.WARNING)
         self.again.start()
         self.standard = Standard(self, self.INPUT)

@@ -5,22 +5,23 @@ import signal
 import subprocess
 import zlib
 
+import rsl
 from check_again import CONTROLLER, OFTEN, catch_up, controller, journaled, needs_journal, program_that, remove, settle
 from check_succession import refused, upgrade
-from harness import FIRST, FOLDER, LIMIT, SITE, Asker, LeftOut, child, must
+from harness import FIRST, FOLDER, LIMIT, SECOND, SITE, Asker, LeftOut, child, is_kind, must
 from kept_site import KeptSite
 from network_harness import FIRST as ONE
 from network_harness import SECOND as OTHER
 from network_harness import SITE as TWO_CELLS
 from network_harness import UPDATE, assigned, burst, clear, register, say, sent
 from sites import place_of_site
-from speech_harness import deleted, speak, start_call
+from speech_harness import speak, start_call
 from test_controller import record
 
 # A third cell, and its unit.
 CELL = """[[cell]]
 lac = 23
-ci = 102
+ci = 103
 bcch = 75
 ncc = 1
 bcc = 4
@@ -101,7 +102,7 @@ def reloaded_in_calls(start, room, program):
         "handover: window: 2 -> 3",
         "cell 23/100: ba: 70 -> 70, 80",
         "cell 23/101: power: 5 -> 7",
-        "cell 23/102: is new, with the number 2",
+        "cell 23/103: is new, with the number 2",
         "station 6971/0/0: is new, of cell 2, TRX 0",
         "broadcast.t3212: 5 -> 10",
         "timers.t7: 120 -> 30",
@@ -117,10 +118,10 @@ def reloaded_in_calls(start, room, program):
     burst(third, "070a0d")
     number = assigned(third, "070a0d", training=4, carrier=75)
     say(third, f"020601{number}02000b{len(UPDATE) // 2:04x}{UPDATE}")
-    clear(run, third, number, run.centre.begun(UPDATE, 102))
+    clear(run, third, number, run.centre.begun(UPDATE, 103))
     for call in calls:
         clear(run, station, call.number, call.connection)
-        deleted(call)
+    run.gateway.emptied()
     run.end()
 
 
@@ -186,14 +187,14 @@ def inserted_in_front(start, room, program):
         run,
         "cell 23/100: its number: 0 -> 1",
         "cell 23/101: its number: 1 -> 2",
-        "cell 23/102: is new, with the number 0",
+        "cell 23/103: is new, with the number 0",
         "station 6969/0/0: cell: 0 -> 1",
         "station 6970/0/0: cell: 1 -> 2",
         "station 6971/0/0: is new, of cell 0, TRX 0",
     )
     must(not told_from(station, before), f"what its mobiles know is sent: {told_from(station, before)}")
     third = run.station(THIRD)
-    for place, (it, cell, training, carrier) in enumerate(((third, 102, 4, 75), (station, 100, 1, 60), (other, 101, 2, 70))):
+    for place, (it, cell, training, carrier) in enumerate(((third, 103, 4, 75), (station, 100, 1, 60), (other, 101, 2, 70))):
         burst(it, "070a0d")
         number = assigned(it, "070a0d", training=training, carrier=carrier)
         run.expect(f"^event open .* {place}/0/1 -> done$")
@@ -434,6 +435,32 @@ def check(room, status, printed, said):
     must(said in ran.stderr and bool(said) == bool(ran.stderr), f"{ran.stderr} has no {said!r}")
 
 
-CHECKS = [edited, of_stations_alone, the_text_after_a_crash]
+def changed_for_one_another(start, room, program):
+    """A bridge ends, and the next one begins with a cell in front of the others: where its stations are numbered so, the controller
+    goes on over the new site; where they are those of before, it goes on over the old one."""
+    site, text = room / "site.toml", SITE.read_text()
+    site.write_text(text)
+    core = (controller(room, program), "live", site, "--journal", "journal")
+    start(*OFTEN, core=core).end()
+    at = text.index("[[cell]]")
+    for stations, place, told in (
+        ((f"{FIRST}=0/0", f"{SECOND}=1/1"), 0, f"{site} has changed since the controller was given it: `reload` takes it$"),
+        ((f"{FIRST}=1/0", f"{SECOND}=2/1", f"{THIRD}=0/0"), 1, f"the stations and {site} have changed: the controller goes on over the"),
+        ((f"{FIRST}=1/0", f"{SECOND}=2/1", f"{THIRD}=0/0"), 1, "controller: resumed after line"),
+    ):
+        site.write_text(text[:at] + CELL + text[at:])
+        bridge = start(*OFTEN, core=core, stations=stations)
+        bridge.said.find(told, 0)
+        station = bridge.station(FIRST)
+        bridge.ask(f"open 1 {place} 0 3")
+        bridge.expect(f"record {place}/0/3 on$")
+        must(station.count(is_kind(rsl.ACTIVATION)) == 1, "another station is asked")
+        bridge.ask("clear 1")
+        bridge.expect(f"^event released {place}/0/3 -> done$")
+        bridge.end()
+    must((room / "journal.site").read_text() == site.read_text(), "another text is kept")
+
+
+CHECKS = [edited, of_stations_alone, the_text_after_a_crash, changed_for_one_another]
 OF_NETWORK = [reloaded_in_calls, refused_in_a_call, inserted_in_front, config_alone, without_the_option, an_option_of_tomorrow]
 OF_NETWORK += [refused_late, killed_as_it_goes_on, checked]

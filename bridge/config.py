@@ -225,6 +225,13 @@ def stations_of(tables, cells, faults):
     return stations
 
 
+def places_in(tables):
+    """Which TRX each station is, as Station.place says it, as far as their tables can be read."""
+    for it in tables if isinstance(tables, list) else ():
+        if isinstance(it, dict):
+            yield f"{it.get('unit')}={it.get('cell')}/{it.get('trx', 0)}"
+
+
 def read(path, is_edited=False):
     """What CONFIG says; raises ConfigError with a line for each fault. The site is that which the controller has. Where `is_edited`,
     it is that of its file now, also with those keys that only the controller reads."""
@@ -235,7 +242,7 @@ def read(path, is_edited=False):
     name = top.text("site", r"[^\0]+", "the path of a site")
     site, site_faults, rest, cells = path.parent / (name or ""), Faults(), Faults(), []
     kept = KeptSite([*(controller or ()), str(site)])
-    text = b"" if is_edited else kept.text
+    text = b"" if is_edited else kept.begin_with(places_in(top.rest.get("station")))
     if name and not text and not os.path.isfile(site):
         faults.add("site", "the path of a site, which is a file, is allowed", shown(name))
     elif name:

@@ -1,15 +1,15 @@
 """The text of the site that a controller has. It is kept beside the controller's journal, and each controller is given that: so the
 site's file can be edited, and nothing comes of it before `reload` (reload.py).
 
-Beside the journal FOLDER the text stands in FOLDER.site. Another one that is to take its place stands in FOLDER.site.new until the
-controller has gone on with it. Of which of them the journal is, its head says."""
+Beside the journal FOLDER the text stands in FOLDER.site, and in FOLDER.stations which stations went by it. Another text that is to take
+its place stands in FOLDER.site.new until the controller has gone on with it. Of which of them the journal is, its head says."""
 import contextlib
 import os
 import pathlib
 import zlib
 
 from journal import Journal
-from sites import place_of_site
+from sites import place_of_site, table_of
 from tell import Level, say
 
 # The option by which a controller goes on over the journal of another site, whose text is in the file behind it.
@@ -23,12 +23,15 @@ class KeptSite:
         """`command` is that of the controller, with the path of the site's file."""
         self.journal, self.place = Journal.of(command), place_of_site(command)
         self.file = None if self.place is None else command[self.place]
-        folder = self.journal and pathlib.Path(os.path.abspath(self.journal.folder))
-        self.kept = folder and self.file and folder.parent / f"{folder.name}.site"
-        self.next = self.kept and folder.parent / f"{folder.name}.site.new"
-        # the text that the controller has, or gets first, as octets; None where none can be read
-        self.text = self.read()
-        # one that is to take its place, and whether controllers are given that
+        folder = self.journal and self.file and pathlib.Path(os.path.abspath(self.journal.folder))
+        self.kept, self.next, self.stations = (
+            folder and folder.parent / f"{folder.name}.{name}" for name in ("site", "site.new", "stations")
+        )
+        # the text that the controller has, or gets first, as octets, None where none can be read; and the stations that go by it
+        self.text, self.units = self.read(), b""
+        # a text that is to take its place as the bridge begins; one that is tried for that; and whether controllers are given the
+        # latter
+        self.first_text: bytes | None = None
         self.next_text: bytes | None = None
         self.is_begun = False
 
@@ -45,10 +48,25 @@ class KeptSite:
         """Whether the site's file has another text now."""
         return octets_of(self.file) not in (None, self.text)
 
+    def begin_with(self, units):
+        """A bridge begins with stations, of which it is said which TRX they are, a line each; the text that it goes by. Where other
+        stations went by the one that is kept, and the site's file says something else too, both were changed for one another: then
+        it is that of the file, with which the controller goes on."""
+        self.units = "".join(f"{it}\n" for it in sorted(units)).encode()
+        if self.kept and octets_of(self.stations) not in (None, self.units):
+            text = octets_of(self.file)
+            if (table := table_of(text)) and table != table_of(self.text):
+                self.first_text = text
+        return self.first_text or self.text
+
     # What a controller is given
 
     def given(self, command):
         """A controller's command, with the text that it is given in the place of the site's file. That is on the disk then."""
+        if self.first_text is not None:
+            say(f"the stations and {self.file} have changed: the controller goes on over the site as it is now")
+            self.prepare(self.first_text)
+            self.begin()
         return self.given_next(command) if self.is_begun else self.replaced(command, self.keep())
 
     def given_next(self, command):
@@ -68,8 +86,9 @@ class KeptSite:
         if not self.kept or self.text is None or self.is_of_another():
             return self.file
         try:
-            if octets_of(self.kept) != self.text:
-                write(self.kept, self.text)
+            for path, octets in ((self.kept, self.text), *(() if self.first_text else ((self.stations, self.units),))):
+                if octets_of(path) != octets:
+                    write(path, octets)
             if self.next_text is None and os.path.lexists(self.next):
                 os.unlink(self.next)
         except OSError as error:
@@ -89,7 +108,7 @@ class KeptSite:
         if self.keep() != self.kept:
             raise OSError(f"the controller reads {self.file} itself")
         write(self.next, text)
-        self.next_text = text
+        self.next_text, self.first_text = text, None
 
     def begin(self):
         """Controllers are given the other text from here on."""
@@ -99,15 +118,22 @@ class KeptSite:
         """Whether the journal is of the other text already."""
         return self.next_text is not None and self.journal.site() == zlib.crc32(self.next_text)
 
-    def take(self, file):
-        """The other text has taken the place; it was read from a file."""
-        self.text, self.file, self.next_text, self.is_begun = self.next_text, file, None, False
+    def take(self):
+        """The other text has taken the place, if there is one."""
+        if not self.is_begun:
+            return
+        self.text, self.next_text, self.is_begun = self.next_text, None, False
         try:
             os.replace(self.next, self.kept)
             sync_folder(self.kept.parent)
         except OSError as error:
             # the journal says whose it is, and both are there
             say(f"{self.kept}: can't be replaced: {error}", Level.ERROR)
+        self.keep()
+
+    def go_by(self, file, units):
+        """The text was read from a file; stations go by it, of which it is said which TRX they are."""
+        self.file, self.units = file, "".join(f"{it}\n" for it in sorted(units)).encode()
 
     def drop(self):
         """The other text isn't to take the place any more."""

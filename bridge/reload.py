@@ -131,7 +131,7 @@ class Reload:
     def goes_on(self, line):
         """A controller goes on over the new site."""
         self.line = line
-        self.again.kept.take(self.new.site)
+        self.again.kept.take()
         self.again.command = self.again.kept.replaced(self.again.command, self.new.site)
         if self.relay.log:
             self.relay.log.note(f"the site is another one from here on: {self.new.site} as it is now")
@@ -142,6 +142,8 @@ class Reload:
         """The bridge goes by the new settings."""
         self.pause(False)
         self.again.bridge.settings = self.relay.take_settings(self.new, site_changes.numbers(*self.tables))
+        self.again.kept.go_by(self.new.site, [it.place() for it in self.new.stations])
+        self.again.kept.keep()
         self.note_files()
 
     def note_files(self):

@@ -91,11 +91,10 @@ def unknown_place(path, text, stations):
     if not cells:
         return None
     for station in stations:
-        place = f"{station.unit}={station.cell}/{station.trx}"
         if station.cell >= len(cells):
-            return f"{place}: CELL is 0 to {len(cells) - 1} in {path}, found {station.cell}"
+            return f"{station.place()}: CELL is 0 to {len(cells) - 1} in {path}, found {station.cell}"
         if station.trx >= (count := len(cells[station.cell])):
-            return f"{place}: TRX is 0 to {count - 1} in cell {station.cell} of {path}, found {station.trx}"
+            return f"{station.place()}: TRX is 0 to {count - 1} in cell {station.cell} of {path}, found {station.trx}"
     return None
 
 

@@ -59,6 +59,10 @@ class Station:
     def __str__(self):
         return f"station {self.unit} (cell {self.cell}, TRX {self.trx})"
 
+    def place(self):
+        """Which TRX it is, as a word of bridge/abis says it."""
+        return f"{self.unit}={self.cell}/{self.trx}"
+
     def channel(self, number):
         """A channel of its, by its number."""
         return Channel(self.cell, self.trx, number)
