@@ -55,8 +55,8 @@ class Bridge:
     def __init__(self, words, make_relay=Relay):
         """`words` are the settings: `stations`, `seconds`, `bind`, `port`, `log`, `control`, `figures`, `figures_every`,
         `messages`, `again`, `hang`, `log_level`, and `core`, the controller's command, with the `text` of its site, and `kept`, what
-        is kept of that. `arguments` are the command line, and `paths` the files that were read. The controller and standard input are there once it
-        has started."""
+        is kept of that. `arguments` are the command line, and `paths` the files that were read. The controller and standard input are
+        there once it has started."""
         self.words = words
         says_up_to(words.log_level)
         self.selector = Selector()

@@ -6,7 +6,7 @@ import subprocess
 import zlib
 
 import rsl
-from check_again import CONTROLLER, OFTEN, catch_up, controller, journaled, needs_journal, program_that, remove, settle
+from check_again import CONTROLLER, OFTEN, catch_up, controller, good_on_a_copy, needs_journal, program_that, remove, settle
 from check_succession import refused, upgrade
 from harness import FIRST, FOLDER, LIMIT, SECOND, SITE, Asker, LeftOut, child, is_kind, must
 from kept_site import KeptSite
@@ -149,12 +149,16 @@ def refused_in_a_call(start, room, program):
         (swapped(site), config, f"cell 23/100: its number: 0 -> 1{WHILE}"),
         (site.replace(HEAD, CELL + HEAD), config, f"cell 23/100: its number: 0 -> 1{WHILE}"),
         (site.replace("arfcn = 60", "arfcn = 62"), config, f"cell 23/100: TRX 0: arfcn: 60 -> 62{WHILE}"),
-        (site.replace("arfcn = 60, tch = [1, 2]", "arfcn = 60, tch = [2]"), config, f"cell 23/100: TRX 0: 0/0/1 is no traffic channel any more{WHILE}"),
+        (
+            site.replace("arfcn = 60, tch = [1, 2]", "arfcn = 60, tch = [2]"),
+            config,
+            f"cell 23/100: TRX 0: 0/0/1 is no traffic channel any more{WHILE}",
+        ),
         (site.replace("bcc = 1\n", "bcc = 5\n"), config, f"cell 23/100: bcc: 1 -> 5{WHILE}"),
         (alone_site, alone, f"cell 23/100: goes{WHILE}"),
         (site, units, f"TRX 0 of cell 0: its station: 6969/0/0 -> 6970/0/0{WHILE}"),
         (site.replace("ba = [70]", "ba = [700]"), config, faulty + r"\[700\]"),
-        (site, config.replace("band = 900", "band = 850"), f"{room / 'config.toml'}: network.band: one of 900, 1800 is allowed, not 850"),
+        (site, config.replace("band = 900", "band = 850"), f"{room / 'config.toml'}: network.band: one of 900, 1800 is allowed, .*"),
     ]
     for text, found, why in cases:
         (room / "site.toml").write_text(text)
@@ -237,8 +241,8 @@ def config_alone(start, room, _program):
 
 def without_the_option(start, room, program):
     """A controller that has no --site-changed is named, and goes on; and so does one that has none and no journal."""
-    other = program_that(room, "other", f'#!/bin/sh\ncase "$*" in *--site-changed*) echo "{UNKNOWN}" >&2; exit 2;; esac\n'
-                         f'exec "{CONTROLLER}" "{program}" "$@"\n')
+    refuses = f'case "$*" in *--site-changed*) echo "{UNKNOWN}" >&2; exit 2;; esac'
+    other = program_that(room, "other", f'#!/bin/sh\n{refuses}\nexec "{CONTROLLER}" "{program}" "$@"\n')
     for core, why in (
         ((other, "live", "--journal", room / "journal"), f"tried on a copy of the journal: it ended with status 2: {UNKNOWN}"),
         ((program, "live"), "the controller has no journal"),
@@ -285,15 +289,13 @@ def needs_option(room, program):
 def refused_late(start, room, program):
     """A controller that would go on over a copy and doesn't over the journal is none: the old one goes on, and is told that."""
     lines = f'case "$*" in *--site-changed*) exit 2;; esac\nexec "{CONTROLLER}" "{program}" "$@"'
-    text = f'#!/bin/sh\ncase "$*" in *gofnild-trial-*) exec "{CONTROLLER}" "{program}" "$@";; esac\n{lines}\n'
-    run = start(words=OFTEN, core=(program_that(room, "other", text), "live", "--journal", room / "journal"))
+    core = (good_on_a_copy(room, program, "other", lines), "live", "--journal", room / "journal")
+    run = start(words=OFTEN, core=core)
     station = run.begin()
     number, connection = register(run, station)
-    change(room, "site.toml", ("window = 2", "window = 3"), (HEAD, CELL + HEAD.replace("100", "109")), ("ci = 101", "ci = 100"))
-    change(room, "site.toml", ("ci = 109", "ci = 101"))
-    (room / "site.toml").write_text(TWO_CELLS.replace("window = 2", "window = 3"))
+    change(room, "site.toml", ("window = 2", "window = 3"))
     reload(run, "refused: reload: it ended with status 2, and the old one goes on")
-    must(sorted(it.name for it in room.glob("journal.*")) == ["journal.site"], "the other text is left")
+    must(sorted(it.name for it in room.glob("journal.*")) == ["journal.site", "journal.stations"], "the other text is left")
     must((room / "journal.site").read_text() == TWO_CELLS, "another text is kept")
     clear(run, station, number, connection)
     run.end()
@@ -358,7 +360,8 @@ def of_stations_alone(start, room, program):
     operator = Asker(room / "control")
     change(room, "site.toml", ("window = 2", "window = 5"))
     operator.ask("reload\n")
-    operator.expect("^reload: handover: window: 2 -> 5$", r"^reload: tried on a copy .* line \d+$", r"^reload: goes on behind line \d+$")
+    for pattern in ("handover: window: 2 -> 5", r"tried on a copy .* line \d+", r"goes on behind line \d+"):
+        operator.expect(f"^reload: {pattern}$")
     upgrade(bridge)
     os.killpg(child(bridge), signal.SIGKILL)
     bridge.said.expect("controller: resumed after line")
@@ -376,7 +379,7 @@ def of_stations_alone(start, room, program):
 
 
 def the_text_after_a_crash(_start, room, _program):
-    """Whenever the machine stops while a text takes the place of another, the journal's head says which of both is the controller's."""
+    """Whenever the machine stops while a text takes the place of another, the journal's head says whose text is the controller's."""
     journal, site = room / "journal", room / "site.toml"
     journal.mkdir()
     command = ["lab", "live", "--keep", "3", str(site), "--journal", str(journal)]
@@ -392,7 +395,8 @@ def the_text_after_a_crash(_start, room, _program):
         (b"old", b"new", None, b"edited"),
         (b"old", b"new", b"lost", b"edited"),
     ):
-        for path, text in ((room / "journal.site", kept), (room / "journal.site.new", following), (journal / f"{0:020}.journal", head.get(of))):
+        paths = (room / "journal.site", room / "journal.site.new", journal / f"{0:020}.journal")
+        for path, text in zip(paths, (kept, following, head.get(of))):
             path.unlink(missing_ok=True)
             if text is not None:
                 path.write_bytes(text)
@@ -418,7 +422,8 @@ def checked(start, room, program):
     check(room, 0, "reload: handover: window: 2 -> 3\n", "")
     (room / "site.toml").write_text(swapped(site))
     lines = "reload: cell 23/100: its number: 0 -> 1\nreload: cell 23/101: its number: 1 -> 0\n"
-    check(room, 1, lines, f"{room / 'config.toml'}: controller: --journal: tried on a copy with --site-changed: it ended with status 2: ")
+    why = "controller: --journal: tried on a copy with --site-changed: it ended with status 2: "
+    check(room, 1, lines, f"{room / 'config.toml'}: {why}")
     (room / "journal.site").write_text("no text that is known\n")
     check(room, 1, "", f": of another site than {room / 'site.toml'}: ")
     (room / "site.toml").write_text(site)
@@ -445,10 +450,10 @@ def changed_for_one_another(start, room, program):
     at = text.index("[[cell]]")
     for stations, place, told in (
         ((f"{FIRST}=0/0", f"{SECOND}=1/1"), 0, f"{site} has changed since the controller was given it: `reload` takes it$"),
-        ((f"{FIRST}=1/0", f"{SECOND}=2/1", f"{THIRD}=0/0"), 1, f"the stations and {site} have changed: the controller goes on over the"),
+        ((f"{FIRST}=1/0", f"{SECOND}=2/1", f"{THIRD}=0/0"), 1, f"the stations and {site} have changed: the controller goes on"),
         ((f"{FIRST}=1/0", f"{SECOND}=2/1", f"{THIRD}=0/0"), 1, "controller: resumed after line"),
     ):
-        site.write_text(text[:at] + CELL + text[at:])
+        site.write_text(text[:at] + CELL.replace("[1, 2]", "[1, 2, 3]") + text[at:])
         bridge = start(*OFTEN, core=core, stations=stations)
         bridge.said.find(told, 0)
         station = bridge.station(FIRST)

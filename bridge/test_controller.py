@@ -10,7 +10,7 @@ line each, where the controller is killed: `N STAGE`, at line N: `given` (it isn
 has noted the line, `computes` without end, or waits in a `disk` until somebody opens FOLDER/disk and closes it; that it prints
 what no controller does in front of it (`garbled`); or that it `ends` behind it as if nothing more was to come. What has
 happened is taken out of it. While there is FOLDER/hold it doesn't begin, or go on. A journal that is of the site OLD it goes on with
-where each line has the same answer over SITE, and each channel of a call is the same one in both; it is killed behind that, before it
+where each event has the same reply over SITE, and each channel of a call is the same one in both; it is killed behind that, before it
 says that it goes on, where there is FOLDER/die.
 """
 import contextlib
@@ -65,6 +65,11 @@ def differing(old, new, answers):
         except LookupError:
             return channel
     return None
+
+
+def events_in(lines):
+    """The events among lines, each with its reply."""
+    return [it.rstrip(b"\n") for it in lines if it.startswith(b"event ")]
 
 
 class Live:
@@ -132,7 +137,7 @@ class Controller:
         if old is None or zlib.crc32(old) != known:
             refuse(f"{self.journal}: of another site")
         for number, lines in Journal(self.folder).lines_behind(0, sys.maxsize):
-            if lines != [it.rstrip(b"\n") for it in answers[number - 1] if not it.startswith(b"summary ")]:
+            if events_in(lines) != events_in(answers[number - 1]):
                 refuse(f"{self.journal}: record {number} has another reply over the new site")
         if channel := differing(old, text, answers):
             refuse(f"{self.journal}: channel {channel}, which a call has, is another one in the new site")
