@@ -339,6 +339,8 @@ class Again:
         """No controller can go on: the bridge ends, and not well."""
         self.has_failed = True
         self.tell_vain_upgrade(f"the old one doesn't go on: {why}")
+        if self.upgrading and self.upgrading.line is None:
+            self.upgrading.tell(f"refused: {self.upgrading.name}: {why}, and none goes on")
         if self.bridge.is_ending:
             say(why, Level.ERROR)
         self.end(why)

@@ -7,13 +7,14 @@ import zlib
 
 import rsl
 from check_again import CONTROLLER, OFTEN, catch_up, controller, good_on_a_copy, needs_journal, program_that, remove, settle
-from check_succession import refused, upgrade
+from check_succession import EndlessStation, refused, upgrade
 from harness import FIRST, FOLDER, LIMIT, SECOND, SITE, Asker, LeftOut, child, is_kind, must
 from kept_site import KeptSite
+from load import SpeakingCentre
 from network_harness import FIRST as ONE
 from network_harness import SECOND as OTHER
 from network_harness import SITE as TWO_CELLS
-from network_harness import UPDATE, assigned, burst, clear, register, say, sent
+from network_harness import UPDATE, assigned, burst, clear, emptied, register, say, sent
 from sites import place_of_site
 from speech_harness import speak, start_call
 from test_controller import record
@@ -44,6 +45,8 @@ WHILE = ", while call 1 has channel 0/0/1"
 NEIGHBOURS = "00000000000080200000000000000000"
 TYPE_2, TYPE_5 = f"0c1101801e02271759061a{NEIGHBOURS}ffe50400", f"101a1e050b001349061d{NEIGHBOURS}"
 TYPE_3 = "0c1101801e03271749061b{:04x}00f1100017c8030a274540e504002b2b2b2b"
+# How often the site changes under load.
+MANY = 100
 # A controller that has no --site-changed says so, as it says of each option that it doesn't know.
 UNKNOWN = "error: unexpected argument '--site-changed' found"
 
@@ -466,6 +469,69 @@ def changed_for_one_another(start, room, program):
     must((room / "journal.site").read_text() == site.read_text(), "another text is kept")
 
 
+def of_its_own(start, room, program):
+    """The program's own journal goes on over a changed site: with a call in a cell, another cell is put in front in vain, and behind it
+    is taken. Once no call is there cells are swapped."""
+    needs_option(room, program)
+    core = (program, "live", "--journal", room / "journal")
+    run = start(words=(*OFTEN, "--log", room / "log"), core=core)
+    station, other = run.begin(), run.station(OTHER)
+    call = start_call(run, station)
+    speak(call)
+    run.settle()
+    asked, site = len(run.gateway.came), (room / "site.toml").read_text()
+    (room / "site.toml").write_text(site.replace(HEAD, CELL + HEAD))
+    reload(run, f"refused: reload: cell 23/100: its number: 0 -> 1{WHILE}")
+    (room / "site.toml").write_text(site.replace("[[outside]]", CELL + "[[outside]]").replace("margin = 3", "margin = 4"))
+    taken(run, "handover: margin: 3 -> 4", "cell 23/103: is new, with the number 2")
+    must(len(run.gateway.came) == asked, f"the gateway is asked {run.gateway.came[asked:]}")
+    os.killpg(child(run), signal.SIGKILL)
+    run.said.expect("has ended with status -9 behind line")
+    clear(run, station, call.number, call.connection)
+    run.gateway.emptied()
+    (room / "site.toml").write_text(swapped(site))
+    change(room, "config.toml", ("cell = 1", "cell = 2"), ("cell = 0", "cell = 1"), ("cell = 2", "cell = 0"))
+    taken(run, "cell 23/100: its number: 0 -> 1", "cell 23/101: its number: 1 -> 0", "cell 23/103: goes")
+    upgrade(run)
+    for place, (it, training, carrier) in enumerate(((other, 2, 70), (station, 1, 60))):
+        burst(it, "070a0d")
+        number = assigned(it, "070a0d", training=training, carrier=carrier)
+        run.expect(f"^event open .* {place}/0/1 -> done$")
+        say(it, f"020601{number}02000b{len(UPDATE) // 2:04x}{UPDATE}")
+        connection = run.centre.begun(UPDATE, 101 - place)
+        run.centre.data(connection, "000420040109")
+        sent(it, f"030101{number}02000b0003060d00")
+        say(it, f"020901{number}0200")
+        run.expect(f"^event released {place}/0/1 -> done$")
+        run.centre.release(connection)
+    run.end()
+
+
+def many_in_a_row(start, room, program):
+    """Calls get speech and are cleared, four at once in each of two cells, while the site changes again and again: all calls come to
+    their end, no link is lost, and nothing is left."""
+    needs_option(room, program)
+    site = (FOLDER / "network_site.toml").read_text()
+    core = (program, "live", "--journal", room / "journal", "--keep", "3")
+    run = start(words=OFTEN, core=core, centre=SpeakingCentre(), site=site, awaited=6, t3111=0.01)
+    run.said.expect("A: the centre is there")
+    stations = [EndlessStation(run.port, unit, 100_000, 4) for unit in (ONE, OTHER)]
+    for station in stations:
+        must(station.known.wait(LIMIT), f"{station.unit} isn't acknowledged")
+        station.begin()
+    for count in range(MANY):
+        (room / "site.toml").write_text(site.replace("margin = 3", f"margin = {4 + count % 50}"))
+        reload(run, r"reload: goes on behind line \d+")
+    for station in stations:
+        station.is_over = True
+    emptied(run)
+    run.gateway.emptied()
+    calls = sum(len(station.took) for station in stations)
+    must(calls > MANY, f"{calls} calls while the site changes {MANY} times")
+    must(all(station.is_there for station in stations) and run.centre.links == 1, "a link was lost")
+    run.end()
+
+
 CHECKS = [edited, of_stations_alone, the_text_after_a_crash, changed_for_one_another]
 OF_NETWORK = [reloaded_in_calls, refused_in_a_call, inserted_in_front, config_alone, without_the_option, an_option_of_tomorrow]
-OF_NETWORK += [refused_late, killed_as_it_goes_on, checked]
+OF_NETWORK += [refused_late, killed_as_it_goes_on, checked, of_its_own, many_in_a_row]

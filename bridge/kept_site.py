@@ -53,7 +53,7 @@ class KeptSite:
         stations went by the one that is kept, and the site's file says something else too, both were changed for one another: then
         it is that of the file, with which the controller goes on."""
         self.units = "".join(f"{it}\n" for it in sorted(units)).encode()
-        if self.kept and octets_of(self.stations) not in (None, self.units):
+        if self.kept and self.text is not None and octets_of(self.stations) not in (None, self.units) and not self.is_of_another():
             text = octets_of(self.file)
             if (table := table_of(text)) and table != table_of(self.text):
                 self.first_text = text

@@ -119,6 +119,7 @@ class NetworkRelay(Relay):
         """Takes other settings: stations are sent what differs in what their mobiles are told."""
         before = {station.unit: self.messages_of(station) for station in self.stations.values() if station.link}
         self.air.renumber(numbers)
+        self.paging.renumber(numbers)
         super().take_settings(settings, numbers)
         new, was_barred = settings.config, self.information.barred_by(self.config.broadcast)
         self.config.take(new)

@@ -94,6 +94,11 @@ class Paging:
             if self.times.was_set(("t3113", sought.imsi)):
                 self.run_t3113(sought)
 
+    def renumber(self, numbers):
+        """Cells have other numbers, or go."""
+        for sought in self.by_imsi.values():
+            sought.cells = [number for it in sought.cells if (number := numbers.get(it, it)) is not None]
+
     def asked(self, octets):
         """PAGING came. Where the mobile is looked for already, that begins anew."""
         found = elements.elements_in(octets) or {}

@@ -75,19 +75,20 @@ class Reload:
 
     def stays(self):
         """A line for each thing that can't change so."""
-        return site_changes.configs_stay(self.old.config, self.new.config) if self.new.config else []
+        running = self.again.command[:-1]
+        return site_changes.configs_stay(self.old.config, running, self.new.config) if self.new.config else []
 
     def conflict(self):
         """Why the channels that are in use wouldn't be the same; None where they are."""
         old, new = ({(it.cell, it.trx): it.unit for it in settings.stations} for settings in (self.old, self.new))
         for channel in sorted(self.in_use()):
             used = self.relay.calls.channels.get(channel)
-            whose = f"call {used.call} has" if used and used.call else "nobody has yet"
+            reason = f"call {used.call} has channel {channel}" if used and used.call else f"channel {channel} isn't released yet"
             change = site_changes.channel_differs(*self.tables, channel)
             if change is None and old.get(channel[:2]) != new.get(channel[:2]):
                 change = f"TRX {channel.trx} of cell {channel.cell}: its station: {old.get(channel[:2])} -> {new.get(channel[:2])}"
             if change:
-                return f"{change}, while {whose} channel {channel}"
+                return f"{change}, while {reason}"
         return None
 
     def in_use(self):
@@ -148,8 +149,9 @@ class Reload:
 
     def note_files(self):
         """The files are what the bridge goes by, unless something in them stays as it was."""
+        files = self.again.bridge.succession.begun.files
         if not self.stays():
-            self.again.bridge.succession.begun.files.update(self.new.sums)
+            files.update({path: known for path, known in self.new.sums.items() if path in files})
 
     def pause(self, is_paused):
         """Links of stations whose cell gets another number, or goes, are read no more, or again."""

@@ -148,9 +148,10 @@ def configs_differ(old, new):
         yield from differs(f"timers.{name}", old.timers[name], new.timers[name])
 
 
-def configs_stay(old, new):
-    """The lines of what differs between two CONFIGs and isn't taken."""
-    lines = differs("controller", old.core[:-1], new.core[:-1])
+def configs_stay(old, running, new):
+    """The lines of what differs between two CONFIGs and isn't taken; `running` is the controller's command without its site, which
+    may be that of another program since."""
+    lines = differs("controller", old.core[:-1], new.core[:-1]) if new.core[:-1] != running else []
     for name, key in STAYING.items():
         lines += differs(key, getattr(old, name), getattr(new, name))
     for name in STAYING_TABLES:
