@@ -103,7 +103,7 @@ def the_help(start, _room, _program):
     bridge.expect("^#: nothing$")
     told = {re.split("[ :]", line)[0] for line in bridge.out.lines if ": " in line} - {"#"}
     simulated = {word.decode() for word in SIMULATED}
-    own = {"summary", "help", "stations", "calls", "watch", "reopen", "upgrade", "bridge"}
+    own = {"summary", "help", "stations", "calls", "watch", "reload", "reopen", "upgrade", "bridge"}
     must(told == {*taken} - simulated | own, f"it has {sorted(told)}")
     bridge.end()
 
