@@ -522,7 +522,7 @@ class Operators:
         """A line."""
         call, channel = self.chance.randrange(1, 6), self.chance.choice(CHANNELS)
         cell, timeslot, timer = self.chance.randrange(2), self.chance.randrange(4), self.chance.choice(("T3103", "T7", "T8"))
-        lines = ("calls", "stations", "network", "summary", "help", "watch", "watch off", f"watch {call}", "reopen")
+        lines = ("calls", "stations", "network", "summary", "help", "reload", "watch", "watch off", f"watch {call}", "reopen")
         lines += ("upgrade /nowhere", f"open {call} {cell} 0 {timeslot}", f"handover {call} {cell}", f"handover {call} 64")
         lines += (f"undo {call}", f"clear {call}", f"expire {call} {timer}", f"abis 0 0 083301{channel}", f"a {call} {CLEAR}")
         lines += ("nonsense", "\x1b[31m", "sim x", "a 1 zz", "#", "", " ")
