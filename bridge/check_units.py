@@ -186,7 +186,7 @@ def runs(systemd, unit, is_there, timeslot):
     systemd.do("stop", unit)
     must(systemd.known(unit, "ActiveState", "Result") == ("inactive", "success"), "it doesn't end well")
     written = {it.name for it in systemd.path("/var/lib/gofnild").iterdir()}
-    must(written == {"journal"}, f"it leaves {written}")
+    must(written == {"journal", "journal.site", "journal.stations"}, f"it leaves {written}")
 
 
 def under_systemd(_start, room, program):
