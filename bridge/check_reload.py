@@ -7,6 +7,7 @@ import zlib
 
 import rsl
 from check_again import CONTROLLER, OFTEN, catch_up, controller, good_on_a_copy, needs_journal, program_that, remove, settle
+from check_paging import COMMAND, IMSI, RESPONSE, TMSI, count, paging
 from check_succession import EndlessStation, refused, upgrade
 from harness import FIRST, FOLDER, LIMIT, SECOND, SITE, Asker, LeftOut, child, is_kind, must
 from kept_site import KeptSite
@@ -214,6 +215,58 @@ def inserted_in_front(start, room, program):
         run.centre.release(connection)
     run.ask("stations")
     run.expect(r"^station 6969/0/0 \(cell 1, TRX 0\): there since ", r"^station 6970/0/0 \(cell 2, TRX 0\): there since ")
+    run.end()
+
+
+def meanwhile(start, room, program):
+    """While the numbers of cells change a telephone is paged in one of them, another asks for a channel there, and an operator names the
+    other one: each is about its cell."""
+    run = begun(start, room, program, t3113=0.5, pagings=100)
+    station, other = run.begin(), run.station(OTHER)
+    paging(run, IMSI, TMSI, "1a050100170064")
+    sent(station, COMMAND)
+    run.settle()
+    change(room, "site.toml", (HEAD, CELL + HEAD))
+    change(room, "config.toml", ("cell = 1", "cell = 2"), ("cell = 0", "cell = 1"))
+    (room / "journal" / "hold").touch()
+    reload(run, r"reload: tried on a copy of the journal: it would go on behind line \d+")
+    burst(station, "070a0d")
+    run.ask("handover 9 1\nstations")
+    run.out.expect("^controller: away since .*; lines that wait: 1$")
+    (room / "journal" / "hold").unlink()
+    run.expect(r"^reload: goes on behind line \d+$", "^in handover 9 2$", "^event open .* 1/0/1 -> done$")
+    number, before = assigned(station, "070a0d"), count(station)
+    say(station, f"020601{number}02000b{len(RESPONSE) // 2:04x}{RESPONSE}")
+    connection = run.centre.begun(RESPONSE)
+    must(before > 1 and count(other) == 0, f"it is paged {before} times, and {count(other)} times in another cell")
+    run.centre.data(connection, "000420040109")
+    sent(station, f"030101{number}02000b0003060d00")
+    say(station, f"020901{number}0200")
+    run.expect("^event released 1/0/1 -> done$")
+    run.centre.release(connection)
+    run.end()
+
+
+def a_cell_goes(start, room, program):
+    """A cell that had no call goes, and its station with it; the next one takes its number, and another unit is named for it."""
+    run = begun(start, room, program)
+    station, other = run.begin(), run.station(OTHER)
+    run.settle()
+    change(room, "site.toml", (HEAD, HEAD.replace("100", "109")), ("bcc = 1\n", "bcc = 6\n"))
+    change(room, "config.toml", (f'unit = "{ONE}"', f'unit = "{THIRD}"'))
+    taken(run, "cell 23/100: goes", "cell 23/109: is new, with the number 0", f"station {ONE}: goes", f"station {THIRD}: is new, .*")
+    must(station.await_end() and other.is_there, "the station of a cell that goes stays, or another one doesn't")
+    run.stations.remove(station)
+    third = run.station(THIRD)
+    burst(third, "070a0d")
+    number = assigned(third, "070a0d", training=6)
+    say(third, f"020601{number}02000b{len(UPDATE) // 2:04x}{UPDATE}")
+    connection = run.centre.begun(UPDATE, 109)
+    run.centre.data(connection, "000420040109")
+    sent(third, f"030101{number}02000b0003060d00")
+    say(third, f"020901{number}0200")
+    run.expect("^event released 0/0/1 -> done$")
+    run.centre.release(connection)
     run.end()
 
 
@@ -533,5 +586,6 @@ def many_in_a_row(start, room, program):
 
 
 CHECKS = [edited, of_stations_alone, the_text_after_a_crash, changed_for_one_another]
-OF_NETWORK = [reloaded_in_calls, refused_in_a_call, inserted_in_front, config_alone, without_the_option, an_option_of_tomorrow]
+OF_NETWORK = [reloaded_in_calls, refused_in_a_call, inserted_in_front, meanwhile, a_cell_goes, config_alone]
+OF_NETWORK += [without_the_option, an_option_of_tomorrow]
 OF_NETWORK += [refused_late, killed_as_it_goes_on, checked, of_its_own, many_in_a_row]
