@@ -46,8 +46,8 @@ WHILE = ", while call 1 has channel 0/0/1"
 NEIGHBOURS = "00000000000080200000000000000000"
 TYPE_2, TYPE_5 = f"0c1101801e02271759061a{NEIGHBOURS}ffe50400", f"101a1e050b001349061d{NEIGHBOURS}"
 TYPE_3 = "0c1101801e03271749061b{:04x}00f1100017c8030a274540e504002b2b2b2b"
-# How often the site changes under load.
-MANY = 100
+# How often the site changes under load: with a journal for tests, which is read from the beginning each time, and with the program's.
+FEW, MANY = 3, 100
 # A controller that has no --site-changed says so, as it says of each option that it doesn't know.
 UNKNOWN = "error: unexpected argument '--site-changed' found"
 
@@ -560,32 +560,41 @@ def of_its_own(start, room, program):
     run.end()
 
 
-def many_in_a_row(start, room, program):
-    """Calls get speech and are cleared, four at once in each of two cells, while the site changes again and again: all calls come to
-    their end, no link is lost, and nothing is left."""
-    needs_option(room, program)
-    site = (FOLDER / "network_site.toml").read_text()
-    core = (program, "live", "--journal", room / "journal", "--keep", "3")
-    run = start(words=OFTEN, core=core, centre=SpeakingCentre(), site=site, awaited=6, t3111=0.01)
-    run.said.expect("A: the centre is there")
-    stations = [EndlessStation(run.port, unit, 100_000, 4) for unit in (ONE, OTHER)]
-    for station in stations:
-        must(station.known.wait(LIMIT), f"{station.unit} isn't acknowledged")
-        station.begin()
-    for count in range(MANY):
-        (room / "site.toml").write_text(site.replace("margin = 3", f"margin = {4 + count % 50}"))
-        reload(run, r"reload: goes on behind line \d+")
-    for station in stations:
-        station.is_over = True
-    emptied(run)
-    run.gateway.emptied()
-    calls = sum(len(station.took) for station in stations)
-    must(calls > MANY, f"{calls} calls while the site changes {MANY} times")
-    must(all(station.is_there for station in stations) and run.centre.links == 1, "a link was lost")
-    run.end()
+def in_a_row(name, count, is_own):
+    """A check that has the site change so often under load, with the program's own journal or with that for tests."""
+
+    def check(start, room, program):
+        if is_own:
+            needs_option(room, program)
+        site = (FOLDER / "network_site.toml").read_text()
+        command = (program, "live", "--keep", "3") if is_own else (controller(room, program), "live")
+        core = (*command, "--journal", room / "journal")
+        run = start(words=OFTEN, core=core, centre=SpeakingCentre(), site=site, awaited=6, t3111=0.01)
+        run.said.expect("A: the centre is there")
+        stations = [EndlessStation(run.port, unit, 100_000, 4) for unit in (ONE, OTHER)]
+        for station in stations:
+            must(station.known.wait(LIMIT), f"{station.unit} isn't acknowledged")
+            station.begin()
+        for place in range(count):
+            (room / "site.toml").write_text(site.replace("margin = 3", f"margin = {4 + place % 50}"))
+            reload(run, r"reload: goes on behind line \d+")
+        for station in stations:
+            station.is_over = True
+        emptied(run)
+        run.gateway.emptied()
+        calls = sum(len(station.took) for station in stations)
+        must(calls > count, f"{calls} calls while the site changes {count} times")
+        must(all(station.is_there for station in stations) and run.centre.links == 1, "a link was lost")
+        run.end()
+
+    check.__name__ = name
+    check.__doc__ = f"""Calls get speech and are cleared, four at once in each of two cells, while the site changes {count} times, with a
+    {"journal of the program's own" if is_own else "journal for tests"}: all calls come to their end, no link is lost, and nothing is left."""
+    return check
 
 
 CHECKS = [edited, of_stations_alone, the_text_after_a_crash, changed_for_one_another]
 OF_NETWORK = [reloaded_in_calls, refused_in_a_call, inserted_in_front, meanwhile, a_cell_goes, config_alone]
 OF_NETWORK += [without_the_option, an_option_of_tomorrow]
-OF_NETWORK += [refused_late, killed_as_it_goes_on, checked, of_its_own, many_in_a_row]
+OF_NETWORK += [refused_late, killed_as_it_goes_on, checked, of_its_own]
+OF_NETWORK += [in_a_row("a_few_under_load", FEW, False), in_a_row("a_hundred_under_load", MANY, True)]
