@@ -149,8 +149,8 @@ timers_stop b expired turn steps l calls cs timers done so same_cs same_done = i
 pub channels_stop : (b : State) (expired : Option (ℕ × Timer)) (turn : TurnFacts) (steps : List Step) (l : Links) (calls calls' : List CallFacts) (cs cs' : List Channel) (timers : List TimerChange) (done : List Done) →
     cs ≡ l.channels → calls ≡ calls_behind b expired l.calls steps → timers ≡ l.timers ++ changes_behind b expired l.calls steps → calls' ≡ calls →
     ChannelsSoFar b turn calls cs l.done cs' done → FollowsSoFar b expired turn steps l (record { calls = calls'; channels = cs'; timers = timers; done = done })
-channels_stop b expired turn steps l calls calls' cs cs' timers done same_cs first started same (n, are, told) =
-    inr (same ∙ first, started, n, are ∙ (λ i. moved_until (settling b turn (sym same i)) n (same_cs i)), told ∙ (λ i. l.done ++ done_until (settling b turn (sym same i)) n (same_cs i)))
+channels_stop b expired turn steps l calls calls' cs cs' timers done same_cs first started same (n, are, so) =
+    inr (same ∙ first, started, (n, are ∙ (λ i. moved_until (settling b turn (sym same i)) n (same_cs i)), so ∙ (λ i. l.done ++ done_until (settling b turn (sym same i)) n (same_cs i))))
 
 -- THE TURN THAT IS ANSWERED
 
@@ -197,8 +197,10 @@ stops_so (Err e) turn input said s p p' known l l' same is_turn same_input says 
     subst (λ (f : LinksFault _). Stops s input p' l l' f) (sym same) (
       subst (λ (q : Position). IsTurn s turn q) (sym same_p) is_turn,
       same_input,
-      said,
-      subst (λ (i : Inbound _). Says i said) (sym same_input) says,
-      subst (λ (q : Position). FollowsSoFar q.0.desk.book (expired_of turn.input) (record { about = known_before s.0.desk.book (chan_of said); sent_away = sent_away turn.answer }) turn.steps.items l l') (sym same_p)
-          (subst (λ (k : Option (ChanId × ChanState)). FollowsSoFar p.0.desk.book (expired_of turn.input) (record { about = k; sent_away = sent_away turn.answer }) turn.steps.items l l') same_known is),
+      (
+        said,
+        subst (λ (i : Inbound _). Says i said) (sym same_input) says,
+        subst (λ (q : Position). FollowsSoFar q.0.desk.book (expired_of turn.input) (record { about = known_before s.0.desk.book (chan_of said); sent_away = sent_away turn.answer }) turn.steps.items l l') (sym same_p)
+            (subst (λ (k : Option (ChanId × ChanState)). FollowsSoFar p.0.desk.book (expired_of turn.input) (record { about = k; sent_away = sent_away turn.answer }) turn.steps.items l l') same_known is),
+      ),
     )

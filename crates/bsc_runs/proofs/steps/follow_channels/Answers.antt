@@ -6,7 +6,7 @@ use Rattle.bsc_runs.proofs.steps.follow_channels.Goals as goal
 
 pub returns-in_err-reserve-clause-told : goal.returns-in_err-reserve-clause-told
 returns-in_err-reserve-clause-told g c =
-    on_err _ c.from_residual.result
+    on_err _ c.from_residual-in_err-reserve.result
     (all_settled c.args.book.now c.args.turn c.args.machine.now.calls.items c.args.machine.now.channels.items _ c.args.out.now.items _ c.in_ok-settle.ensures.channels
     (c.in_err-reserve.ensures.items ∙ c.in_ok-settle.ensures.done))
 

@@ -10,7 +10,7 @@ returns-in_err-follow_expiry-clause-told g c = on_err _ c.from_residual.result (
 
 pub returns-in_err-reserve-clause-told : goal.returns-in_err-reserve-clause-told
 returns-in_err-reserve-clause-told g c =
-    on_err _ c.from_residual.result (inr (c.in_ok-follow_expiry.ensures.calls, c.in_err-reserve.ensures.items ∙ c.in_ok-follow_expiry.ensures.changes))
+    on_err _ c.from_residual-in_err-reserve.result (inr (c.in_ok-follow_expiry.ensures.calls, c.in_err-reserve.ensures.items ∙ c.in_ok-follow_expiry.ensures.changes))
 
 pub returns-clause-calls : goal.returns-clause-calls
 returns-clause-calls g c =

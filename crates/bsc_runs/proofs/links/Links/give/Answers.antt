@@ -11,8 +11,8 @@ use Rattle.bsc_runs.proofs.links.Links.give.Goals as goal
 
 pub returns-in-Ok-clause-gives : goal.returns-in-Ok-clause-gives
 returns-in-Ok-clause-gives g c =
-    gives_so c.follow.result c.in-Ok.turn c.args.input c.said_in.result c.args.self.now.controller.0.desk.book c.take_turn.new.controller c.follow.new.self.controller c.known_before-known.result
-    c.args.self.now.machine.site.value _ _ c.follow.ensures.turn c.in-Ok.ensures.input c.said_in.ensures.said c.follow.ensures.controller
+    gives_so c.follow.result c.in-Ok.turn c.args.input c.said_in-said.result c.args.self.now.controller.0.desk.book c.take_turn.new.controller c.follow.new.self.controller c.known_before-known.result
+    c.args.self.now.machine.site.value _ _ c.follow.ensures.turn c.in-Ok.ensures.input c.said_in-said.ensures.said c.follow.ensures.controller
     (c.known_before-known.ensures.known ∙ ap (λ (s : State). known_before s c.chan_of.result) c.book.ensures.book ∙ ap (known_before c.args.self.now.controller.0.desk.book) c.chan_of.ensures)
     c.follow.ensures.follows
 
@@ -26,7 +26,7 @@ returns-in-Ok-clause-timers g c =
     let it = c.in-Ok.ensures.turn in
     let before : Links = record { calls = calls; channels = c.args.self.now.machine.channels.items; timers = c.args.out.now.timers.items; done = c.args.out.now.done.items } in
     let behind : Links = record { calls = calls'; channels = c.follow.new.self.machine.channels.items; timers = c.follow.new.out.timers.items; done = c.follow.new.out.done.items } in
-    on_ok (Follows mid.0.desk.book (expired_of turn.input) (record { about = c.known_before-known.result; sent_away = sent_away turn.answer }) (back_on c.said_in.result) c.args.self.now.machine.site.value turn.steps.items before behind)
+    on_ok (Follows mid.0.desk.book (expired_of turn.input) (record { about = c.known_before-known.result; sent_away = sent_away turn.answer }) (back_on c.said_in-said.result) c.args.self.now.machine.site.value turn.steps.items before behind)
     (TimersRun old.0.desk.book calls → TimersRun c.follow.new.self.controller.0.desk.book calls') c.follow.result
     (λ followed run. subst (λ (p : Position). TimersRun p.0.desk.book calls') (sym c.follow.ensures.controller)
     (timers_run old.0.desk.opening old.0.desk.book mid.0.desk.opening mid.0.desk.book old.0.desk.history mid.0.desk.history (expired_of turn.input) turn.steps.items calls calls' c.book.ensures.legal it.legal it.opening it.asked followed.calls run))
@@ -34,7 +34,7 @@ returns-in-Ok-clause-timers g c =
 
 pub returns-in-Ok-clause-stops : goal.returns-in-Ok-clause-stops
 returns-in-Ok-clause-stops g c =
-    stops_so c.follow.result c.in-Ok.turn c.args.input c.said_in.result c.args.self.now.controller c.take_turn.new.controller c.follow.new.self.controller c.known_before-known.result
-    _ _ c.follow.ensures.fault c.in-Ok.ensures.turn c.in-Ok.ensures.input c.said_in.ensures.said c.follow.ensures.controller
+    stops_so c.follow.result c.in-Ok.turn c.args.input c.said_in-said.result c.args.self.now.controller c.take_turn.new.controller c.follow.new.self.controller c.known_before-known.result
+    _ _ c.follow.ensures.fault c.in-Ok.ensures.turn c.in-Ok.ensures.input c.said_in-said.ensures.said c.follow.ensures.controller
     (c.known_before-known.ensures.known ∙ ap (λ (s : State). known_before s c.chan_of.result) c.book.ensures.book ∙ ap (known_before c.args.self.now.controller.0.desk.book) c.chan_of.ensures)
     c.follow.ensures.so_far
