@@ -46,8 +46,8 @@ TIMERS = {state: timer for state, _, timer, *_ in cells_of("The states")}
 HEARD, MOVED = rows_below("What is heard"), rows_below("Where the book has moved")
 KEPT = {name: {"On": on, "Lost": lost} for name, on, lost, *_ in cells_of("Failures that are kept")}
 ACTS = {"give", "pass", "count", "for NACK", "for RELEASE ACK", "for FAILURE", "ACT", "REL", "keep ACT", "RELEASE MOBILE"}
-ACTS |= {"DEACTIVATE SACCH", "keep FAILURE", "bar", "open bar", "end bar", "-timer"}
-ACTS |= {f"{sign}{timer}" for sign in "+-" for timer in [*filter(None, TIMERS.values()), "bar"]}
+ACTS |= {"DEACTIVATE SACCH", "keep FAILURE", "bar", "open lasting bar", "end bar", "-timer"}
+ACTS |= {f"{sign}{timer}" for sign in "+-" for timer in filter(None, TIMERS.values())}
 
 
 @dataclass(frozen=True)
@@ -57,6 +57,10 @@ class Rows:
     heard: tuple = tuple(HEARD)
     moved: tuple = tuple(MOVED)
     kept: tuple = tuple((end, lchan, told) for end, column in KEPT.items() for lchan, told in column.items())
+    # B5: the clock of a bar stops with it
+    clock_stops: bool = True
+    # whether the channels follow a turn before an attempt that it took back has ended
+    settles_first: bool = True
 
     def first(self, rows, lchan, what, holds):
         """What the first row does that fits, and the state behind it; nothing where there is none."""
@@ -93,7 +97,7 @@ SENT = {
     "SendChannelRelease": "RELEASE MOBILE",
     "SendDeactivateSacch": "DEACTIVATE SACCH",
     "act.Bar": "bar",
-    "OpenBar": "open bar",
+    "OpenBar Lasting": "open lasting bar",
     "EndBar": "end bar",
 }
 CLOCKS = {"Activation": "activation", "T3109": "T3109", "T3111": "T3111", "Release": "release", "Bar": "bar"}
@@ -104,6 +108,7 @@ INPUTS = {
     "ConnectionFailure": "CONNECTION FAILURE",
     "HandoverDetection": "HANDOVER DETECTION",
     "HandoverComplete": "HANDOVER COMPLETE",
+    "HandoverFailure": "HANDOVER FAILURE",
     "MeasurementResult": "MEASUREMENT RESULT",
     "DataIndication": "DATA INDICATION",
     "EstablishIndication": "ESTABLISH INDICATION",
@@ -114,7 +119,8 @@ INPUTS = {
     "UnbarAsked": "an operator ends its bar",
 }
 BOOKS = {"is_idle": ("free", "held"), "is_pending": ("pending",), "is_on": ("on",), "is_off": ("off",)}
-HOLDERS = {"anyone": "", "nobody": "no call", "barred": "barred", "leaves": "leaves", "arrives": "arrives", "reports": "reports"}
+HOLDERS = {"anyone": "", "nobody": "no call", "barred": "barred", "timed": "timed", "leaves": "leaves", "arrives": "arrives"}
+HOLDERS |= {"returns": "returns", "reports": "reports"}
 TURNS = {"always": "", "unlinked": "no link", "refused": "refused", "said": "released"}
 
 
@@ -162,7 +168,9 @@ def acts_of(term, state):
 
 
 def act_of(term):
-    return SENT[term] if isinstance(term, str) else f"{'+' if term[0] == 'Start' else '-'}{CLOCKS[term[1]]}"
+    if isinstance(term, list) and term[0] in ("Start", "Stop"):
+        return f"{'+' if term[0] == 'Start' else '-'}{CLOCKS[term[1]]}"
+    return SENT[term if isinstance(term, str) else " ".join(term)]
 
 
 def rows_in(module):

@@ -1,5 +1,5 @@
 -- What the controller is given in another's place. Ours, of no standard.
-use Rattle.std.specs.Prelude.{ℕ, Option, Some, None, if◌then◌else◌}
+use Rattle.std.specs.Prelude.{ℕ, ◌==◌, Option, Some, None, if◌then◌else◌}
 use Rattle.channel_fsm.specs.declared.ChanId.{ChanId}
 use Rattle.cell_table.specs.Site.{is_traffic}
 use Rattle.exchange.specs.declared.Inbound.{Inbound}
@@ -36,18 +36,18 @@ release_on x = RfChannelReleaseAck (bits_of x)
 abbrev pub failure_on : {A : Type 0} → ChanId → Rsl A
 failure_on x = ConnectionFailureIndication (bits_of x) EQUIPMENT_FAILURE
 
--- the call that has the channel ends
-abbrev pub ending : {A : Type 0} → Option ℕ → Option (Inbound A)
-ending None = None
-ending (Some c) = Some (input.Operator (line.Clear c))
+-- the call ends, if it has the channel
+abbrev pub ending : {A : Type 0} → ℕ → Option ℕ → Option (Inbound A)
+ending c None = None
+ending c (Some owner) = if owner == c then Some (input.Operator (line.Clear c)) else None
 
 -- what is given about a channel of the site, for a bar's number
 abbrev pub input_for : {A : Type 0} → State → ℕ → ChanId → InPlace → Option (Inbound A)
 input_for {A} b fresh x Refusal = Some (from_station x (refusal_on {A = A} x))
 input_for {A} b fresh x Release = Some (from_station x (release_on {A = A} x))
 input_for {A} b fresh x Failure = Some (from_station x (failure_on {A = A} x))
-input_for b fresh x OpenBar = Some (input.Operator (line.Open fresh x))
-input_for b fresh x EndBar = ending (owner (state_of b x))
+input_for b fresh x (OpenBar kind) = Some (input.Operator (line.Open fresh x))
+input_for b fresh x (EndBar c) = ending c (owner (state_of b x))
 
 abbrev pub in_place : {A : Type 0} → State → ℕ → ChanId → InPlace → Option (Inbound A)
 in_place b fresh x what = if is_traffic b.site x then input_for b fresh x what else None

@@ -90,18 +90,18 @@ fn failure<A: Allocator + Copy>(alloc: A, chan: ChanId) -> Result<Inbound<A>, Al
     )
 }
 
-/// What ends the call that has a channel, if one has it.
-fn ending<A: Allocator + Copy>(owner: Option<u16>) -> Option<Inbound<A>>
-    ensures input { result ≡ ending owner }
+/// The input that ends a call, if the call has the channel.
+fn ending<A: Allocator + Copy>(call: u16, owner: Option<u16>) -> Option<Inbound<A>>
+    ensures input { result ≡ ending call owner }
 {
     match owner {
-        Some(call) => Some(Inbound::Operator(Line::Clear { call })),
-        None => None,
+        Some(owner) if owner == call => Some(Inbound::Operator(Line::Clear { call })),
+        Some(_) | None => None,
     }
 }
 
-/// What the controller is given about a channel in another's place. `None`: the site has no such channel, or a bar is to end and no
-/// call has the channel. A bar is opened for the number `fresh`.
+/// What the controller is given about a channel in another's place. `None` if the site has no such channel, or if a bar is to
+/// end and no longer has the channel. A bar is opened with the number `fresh`.
 fn input_in_place<A: Allocator + Copy>(
     alloc: A,
     book: &Book<A>,
@@ -118,8 +118,8 @@ fn input_in_place<A: Allocator + Copy>(
         InPlace::Refusal => Ok(Some(refusal(alloc, chan)?)),
         InPlace::Release => Ok(Some(release(alloc, chan)?)),
         InPlace::Failure => Ok(Some(failure(alloc, chan)?)),
-        InPlace::OpenBar => Ok(Some(Inbound::Operator(Line::Open { call: fresh, chan }))),
-        InPlace::EndBar => Ok(ending(book.owner(chan))),
+        InPlace::OpenBar(_) => Ok(Some(Inbound::Operator(Line::Open { call: fresh, chan }))),
+        InPlace::EndBar(call) => Ok(ending(call, book.owner(chan))),
     }
 }
 

@@ -5,11 +5,12 @@
 //! it in another's place, one input after the other ([`Links::next_in_place`]).
 #![tactic(auto)]
 
+mod heard;
 mod in_place;
 mod links;
 mod sent;
 mod steps;
 
 pub use in_place::Next;
-pub use links::{About, Links, LinksFault};
+pub use links::{Links, LinksFault};
 pub use steps::Acts;

@@ -55,5 +55,5 @@ none_owed cs r same = (λ none. owed_nothing cs (sym same ∙ none), λ nothing.
 pub owed_first : (cs : List Channel) (n : ℕ) (c : Channel) → Some n ≡ position owes cs → slice_get cs n ≡ Some c → owed_of c ≡ first_owed cs
 owed_first cs n c at there = sym (ap (owed_at cs) (sym at) ∙ ap (option_and_then owed_of) there)
 
-pub paid_first : (cs : List Channel) (n : ℕ) (c : Channel) → Some n ≡ position owes cs → slice_get cs n ≡ Some c → set cs n (paid c) ≡ first_paid cs
-paid_first cs n c at there = sym (ap (λ o. changed_at paid o cs) (sym at) ∙ ap (with_change paid cs n) there)
+pub paid_first : (fresh : ℕ) (cs : List Channel) (n : ℕ) (c : Channel) → Some n ≡ position owes cs → slice_get cs n ≡ Some c → set cs n (paid fresh c) ≡ first_paid fresh cs
+paid_first fresh cs n c at there = sym (ap (λ o. changed_at (paid fresh) o cs) (sym at) ∙ ap (with_change (paid fresh) cs n) there)

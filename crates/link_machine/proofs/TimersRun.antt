@@ -1,5 +1,5 @@
 -- The timers of calls run just where a book has them armed.
-use Rattle.std.proofs.Common.{◌≡◌, ◌≢◌, ◌⊎◌, ℕ, ◌<◌, zero, suc, Bool, true, false, List, [], ◌∷◌, length, replicate, set, slice_get, Option, Some, None, is_none, not, ◌==◌, refl, sym, ◌∙◌, ap, arith, inl, inr}
+use Rattle.std.proofs.Common.{◌≡◌, ◌≢◌, ◌⊎◌, ℕ, ◌<◌, zero, suc, Bool, true, false, List, [], ◌∷◌, length, replicate, set, slice_get, Option, Some, None, is_none, not, ◌==◌, refl, sym, ◌∙◌, ap, arith, inl, inr, cond}
 use Rattle.std.proofs.lemmas.List.{length-set}
 use Rattle.std.specs.FinMap as map
 use Rattle.std.specs.Option.{option_map}
@@ -7,6 +7,7 @@ use Rattle.std.specs.Ordering.{nat_cmp}
 use Rattle.channel_fsm.specs.declared.ChanId.{ChanId}
 use Rattle.channel_fsm.specs.declared.ChanState.{ChanState}
 use Rattle.attempt_journal.specs.declared.Timer.{Timer}
+use Rattle.attempt_journal.specs.declared.Timer.TheVariants.{T3103, T7, T8}
 use Rattle.cell_table.specs.Site.{is_traffic}
 use Rattle.radio_book.specs.declared.event.Kind.TheVariants as kind
 use Rattle.radio_book.specs.declared.event.Why.{Why}
@@ -29,7 +30,7 @@ use Rattle.radio_tables.specs.Stages.{Allows, stage_allows}
 use Rattle.radio_tables.proofs.MapFacts.{call_cases}
 use Rattle.link_machine.specs.declared.calls.CallFacts.{CallFacts}
 use Rattle.link_machine.specs.Calls.{plain, or_plain, facts_of}
-use Rattle.link_machine.specs.Timers.{facts_behind, with_timer, followed_by, followed, TimersRun, TimersFollow, NoTimersRun}
+use Rattle.link_machine.specs.Timers.{facts_behind, with_timer, not_armed, if_change, followed_by, followed, call_runs_behind, ran_out, is_running, TimersRun, TimersFollow, NoTimersRun, ChangesFollow}
 
 -- AN EVENT CHANGES NO TIMER BUT THAT OF ITS CALL
 
@@ -190,3 +191,94 @@ nothing_known (suc n) (suc c) = nothing_known n c
 
 pub no_timers_run : NoTimersRun
 no_timers_run site n c within = nothing_known n c ∙ sym (map.get-empty nat_cmp c)
+
+-- WHAT STARTS AND STOPS
+
+-- for a note and what is armed
+runs_as_armed : (c : ℕ) (note armed : Option Timer) (t : Timer) →
+    call_runs_behind (if_change (record { call = c; stops = not_armed note armed; starts = not_armed armed note })) t (is_armed t note) ≡ is_armed t armed
+runs_as_armed c None None T3103 = refl
+runs_as_armed c None None T7 = refl
+runs_as_armed c None None T8 = refl
+runs_as_armed c None (Some T3103) T3103 = refl
+runs_as_armed c None (Some T3103) T7 = refl
+runs_as_armed c None (Some T3103) T8 = refl
+runs_as_armed c None (Some T7) T3103 = refl
+runs_as_armed c None (Some T7) T7 = refl
+runs_as_armed c None (Some T7) T8 = refl
+runs_as_armed c None (Some T8) T3103 = refl
+runs_as_armed c None (Some T8) T7 = refl
+runs_as_armed c None (Some T8) T8 = refl
+runs_as_armed c (Some T3103) None T3103 = refl
+runs_as_armed c (Some T3103) None T7 = refl
+runs_as_armed c (Some T3103) None T8 = refl
+runs_as_armed c (Some T3103) (Some T3103) T3103 = refl
+runs_as_armed c (Some T3103) (Some T3103) T7 = refl
+runs_as_armed c (Some T3103) (Some T3103) T8 = refl
+runs_as_armed c (Some T3103) (Some T7) T3103 = refl
+runs_as_armed c (Some T3103) (Some T7) T7 = refl
+runs_as_armed c (Some T3103) (Some T7) T8 = refl
+runs_as_armed c (Some T3103) (Some T8) T3103 = refl
+runs_as_armed c (Some T3103) (Some T8) T7 = refl
+runs_as_armed c (Some T3103) (Some T8) T8 = refl
+runs_as_armed c (Some T7) None T3103 = refl
+runs_as_armed c (Some T7) None T7 = refl
+runs_as_armed c (Some T7) None T8 = refl
+runs_as_armed c (Some T7) (Some T3103) T3103 = refl
+runs_as_armed c (Some T7) (Some T3103) T7 = refl
+runs_as_armed c (Some T7) (Some T3103) T8 = refl
+runs_as_armed c (Some T7) (Some T7) T3103 = refl
+runs_as_armed c (Some T7) (Some T7) T7 = refl
+runs_as_armed c (Some T7) (Some T7) T8 = refl
+runs_as_armed c (Some T7) (Some T8) T3103 = refl
+runs_as_armed c (Some T7) (Some T8) T7 = refl
+runs_as_armed c (Some T7) (Some T8) T8 = refl
+runs_as_armed c (Some T8) None T3103 = refl
+runs_as_armed c (Some T8) None T7 = refl
+runs_as_armed c (Some T8) None T8 = refl
+runs_as_armed c (Some T8) (Some T3103) T3103 = refl
+runs_as_armed c (Some T8) (Some T3103) T7 = refl
+runs_as_armed c (Some T8) (Some T3103) T8 = refl
+runs_as_armed c (Some T8) (Some T7) T3103 = refl
+runs_as_armed c (Some T8) (Some T7) T7 = refl
+runs_as_armed c (Some T8) (Some T7) T8 = refl
+runs_as_armed c (Some T8) (Some T8) T3103 = refl
+runs_as_armed c (Some T8) (Some T8) T7 = refl
+runs_as_armed c (Some T8) (Some T8) T8 = refl
+
+pub changes_follow : ChangesFollow
+changes_follow b calls c t = runs_as_armed c (facts_of calls c).timer (map.get b.timers c) t
+
+-- A TIMER THAT RAN OUT
+
+ran_elsewhere : (calls : List CallFacts) (c d : ℕ) (facts : CallFacts) (t : Bool) → d ≢ c → facts_of (cond t (set calls c facts) calls) d ≡ facts_of calls d
+ran_elsewhere calls c d facts true other = ap or_plain (known_elsewhere calls c d facts other)
+ran_elsewhere calls c d facts false other = refl
+
+ran_long : (calls : List CallFacts) (c : ℕ) (facts : CallFacts) (t : Bool) → length (cond t (set calls c facts) calls) ≡ length calls
+ran_long calls c facts true = length-set calls c facts
+ran_long calls c facts false = refl
+
+expired_between : (b b' : State) (calls : List CallFacts) (c : ℕ) (t : Timer) → TimersRun b calls → Between b b' (followed_by b' (ran_out calls c t) (Some c))
+unfolding Between
+expired_between b b' calls c t run d within =
+    let ran = ran_out calls c t in
+    let empty : CallFacts = record (facts_of calls c) { timer = None } in
+    let long = length-set ran c (facts_behind b' ran c) in
+    let same_long = ran_long calls c empty (is_running calls c t) in
+    elim (call_cases d c) [
+      | inl same ↦
+          inr (ap (λ z. (facts_of (set ran c (facts_behind b' ran c)) z).timer) same
+          ∙ ap (λ (found : Option CallFacts). (or_plain found).timer) (known_there ran c (facts_behind b' ran c) (omega (arith, same)))
+          ∙ its_timer (facts_of ran c) (record_of b' c) (map.get b'.timers c)
+          ∙ ap (map.get b'.timers) (sym same))
+      | inr other ↦
+          inl (ap (λ (found : Option CallFacts). (or_plain found).timer) (known_elsewhere ran c d (facts_behind b' ran c) other)
+          ∙ ap (λ (f : CallFacts). f.timer) (ran_elsewhere calls c d empty (is_running calls c t) other)
+          ∙ run d (omega arith))
+    ]
+
+-- behind a turn that an expiry began the timers run just where they are armed
+pub expired_follow : (b b' : State) (steps : List (Event × Reply)) (calls : List CallFacts) (c : ℕ) (t : Timer) → Leads b steps b' → TimersRun b calls →
+    TimersRun b' (followed b' (followed_by b' (ran_out calls c t) (Some c)) steps)
+expired_follow b b' steps calls c t leads run = all_followed b b' steps (followed_by b' (ran_out calls c t) (Some c)) leads (expired_between b b' calls c t run)

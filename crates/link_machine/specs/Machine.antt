@@ -1,11 +1,13 @@
 -- All channels of a site. Ours, of no standard.
-use Rattle.std.specs.Prelude.{◌≡◌, ℕ, zero, suc, Bool, true, false, List, [], ◌∷◌, ◌++◌, All, map, flat_map, position, Option, Some, None, slice_get, slice_set, if◌then◌else◌, ◌&&◌}
+use Rattle.std.specs.Prelude.{◌≡◌, ℕ, zero, suc, Bool, true, false, List, [], ◌∷◌, ◌++◌, All, map, flat_map, position, Option, Some, None, slice_get, slice_set, is_none, if◌then◌else◌, ◌&&◌}
 use Rattle.std.specs.Option.{option_and_then, option_map}
 use Rattle.channel_fsm.specs.declared.ChanId.{ChanId}
 use Rattle.cell_table.specs.Site.{SiteView, index_of}
 use Rattle.link_tables.specs.declared.Act.{Act}
 use Rattle.link_machine.specs.declared.channel.Channel.{Channel}
+use Rattle.link_machine.specs.declared.channel.Bar.{Bar}
 use Rattle.link_machine.specs.declared.channel.InPlace.{InPlace}
+use Rattle.link_machine.specs.declared.channel.InPlace.TheVariants as owed
 use Rattle.link_machine.specs.declared.moving.Done.{Done}
 use Rattle.link_machine.specs.declared.moving.Moved.{Moved}
 use Rattle.link_machine.specs.Channels.{owes}
@@ -21,7 +23,7 @@ quiet (None ∷ acts) = quiet acts
 quiet (Some act ∷ acts) = false
 
 abbrev pub is_quiet : Done → Bool
-is_quiet done = quiet done.acts && quiet done.bar
+is_quiet done = quiet done.acts && quiet done.bar && is_none done.clock
 
 -- what is told of a channel: what it does, where it is anything
 abbrev pub told_of : Done → List Done
@@ -71,17 +73,26 @@ one_done f site cs x = option_map (λ c. (f c).done) (channel_at site cs x)
 abbrev pub owed_of : Channel → Option (ChanId × InPlace)
 owed_of c = option_map (λ (what : InPlace). (c.chan, what)) c.owed
 
+-- its bar, once a call of this number is opened for one that is owed
+abbrev pub opened : ℕ → Option InPlace → Option Bar → Option Bar
+opened fresh None bar = bar
+opened fresh (Some owed.Refusal) bar = bar
+opened fresh (Some owed.Release) bar = bar
+opened fresh (Some owed.Failure) bar = bar
+opened fresh (Some (owed.OpenBar kind)) bar = Some (record { call = fresh; kind = kind })
+opened fresh (Some (owed.EndBar c)) bar = bar
+
 -- it is owed nothing about it
-abbrev pub paid : Channel → Channel
-paid c = record c { owed = None }
+abbrev pub paid : ℕ → Channel → Channel
+paid fresh c = record c { owed = None; bar = opened fresh c.owed c.bar }
 
 -- what it is owed about the first channel of which it is owed anything
 abbrev pub first_owed : List Channel → Option (ChanId × InPlace)
 first_owed cs = option_and_then (λ n. option_and_then owed_of (slice_get cs n)) (position owes cs)
 
 -- it is owed nothing about that one
-abbrev pub first_paid : List Channel → List Channel
-first_paid cs = changed_at paid (position owes cs) cs
+abbrev pub first_paid : ℕ → List Channel → List Channel
+first_paid fresh cs = changed_at (paid fresh) (position owes cs) cs
 
 -- it is owed nothing
 abbrev pub IsOwedNothing : List Channel → Type 0

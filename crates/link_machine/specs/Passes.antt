@@ -5,10 +5,9 @@ use Rattle.radio_book.specs.State.{State}
 use Rattle.link_machine.specs.declared.calls.CallFacts.{CallFacts}
 use Rattle.link_machine.specs.declared.channel.Channel.{Channel}
 use Rattle.link_machine.specs.declared.moving.Moved.{Moved}
-use Rattle.link_machine.specs.declared.moving.Word.TheVariants as word
 use Rattle.link_machine.specs.declared.pass.Pass.{Pass}
 use Rattle.link_machine.specs.declared.pass.Pass.TheVariants.{Link, Turn}
-use Rattle.link_machine.specs.Moving.{still, told, settled}
+use Rattle.link_machine.specs.Moving.{still, linked, settled}
 
 -- it is a channel of this TRX
 abbrev pub is_of : ℕ → ℕ → ChanId → Bool
@@ -16,5 +15,5 @@ is_of cell trx x = (x.cell == cell) && (x.trx == trx)
 
 -- what a channel does
 abbrev pub passed : State → List CallFacts → Pass → Channel → Moved
-passed b calls (Link cell trx is_up) c = if is_of cell trx c.chan then told b calls (word.Link is_up) c else still c
+passed b calls (Link cell trx is_up) c = if is_of cell trx c.chan then linked b calls is_up c else still c
 passed b calls (Turn turn) c = settled b calls turn c

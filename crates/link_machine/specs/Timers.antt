@@ -1,5 +1,6 @@
 -- The timers of calls: each runs just where a book has it armed. Ours, of no standard.
-use Rattle.std.specs.Prelude.{◌≡◌, ℕ, ◌<◌, Bool, ◌||◌, List, [], ◌∷◌, length, replicate, Option, Some, None, is_some, slice_set, if◌then◌else◌}
+use Rattle.std.specs.Prelude.{◌≡◌, ℕ, ◌<◌, Bool, ◌&&◌, ◌||◌, List, [], ◌∷◌, length, replicate, Option, Some, None, is_some, slice_set, if◌then◌else◌}
+use Rattle.std.proofs.Math.Bool.{not}
 use Rattle.std.specs.FinMap as finite
 use Rattle.attempt_journal.specs.declared.Timer.{Timer}
 use Rattle.radio_tables.specs.declared.kinds.CallRecord.{CallRecord}
@@ -67,3 +68,23 @@ TimersFollow = (b b' : State) (steps : List (Event × Reply)) (calls : List Call
 -- nothing is armed in an empty book, and nothing runs of calls of which nothing is known
 abbrev pub NoTimersRun : Type 0
 NoTimersRun = (site : SiteView) (n : ℕ) → TimersRun (empty_book site) (replicate n plain)
+
+-- the timer runs behind the change, where it did before it or not
+abbrev pub call_runs_behind : Option TimerChange → Timer → Bool → Bool
+call_runs_behind None t before = before
+call_runs_behind (Some change) t before = is_armed t change.starts || (before && not (is_armed t change.stops))
+
+-- What starts and stops: each timer of the call runs behind it just where the book has it armed.
+abbrev pub ChangesFollow : Type 0
+ChangesFollow = (b : State) (calls : List CallFacts) (c : ℕ) (t : Timer) →
+    call_runs_behind (change_by b calls (Some c)) t (is_armed t (facts_of calls c).timer) ≡ is_armed t (finite.get b.timers c)
+
+-- AN EXPIRY
+
+-- the timer of the call runs
+abbrev pub is_running : List CallFacts → ℕ → Timer → Bool
+is_running calls c t = is_armed t (facts_of calls c).timer
+
+-- it runs no more, where it did
+abbrev pub ran_out : List CallFacts → ℕ → Timer → List CallFacts
+ran_out calls c t = if is_running calls c t then slice_set calls c (record (facts_of calls c) { timer = None }) else calls

@@ -1,8 +1,10 @@
 //! Attempts at handover that were undone.
 ghost use Rattle.std.specs.Prelude.{◌≡◌};
-ghost use Rattle.link_machine.specs.Attempts.{shown_on, undone_on};
+ghost use Rattle.link_machine.specs.Attempts.{shown_on, undone_on, end_on};
 
+use crate::calls::is_target;
 use channel_fsm::ChanId;
+use link_tables::AttemptEnd;
 use radio_book::event::{Event, Reply};
 use radio_book::facts;
 
@@ -25,4 +27,15 @@ pub fn undone_on(event: Event, reply: Reply) -> Option<ChanId>
         Some(_) => shown_on(reply),
         None => None,
     }
+}
+
+/// How an attempt ended that was undone, for the channel that serves its call. `back` is the channel that the mobile says it
+/// came back to.
+pub fn end_on(back: Option<ChanId>, chan: ChanId) -> AttemptEnd
+    ensures end { result ≡ end_on back chan }
+{
+    if is_target(chan, back) {
+        return AttemptEnd::CameBack;
+    }
+    AttemptEnd::TakenBack
 }

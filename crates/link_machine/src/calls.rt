@@ -1,9 +1,10 @@
 //! What is known of calls besides the book.
 ghost use Rattle.std.specs.Prelude.{◌≡◌};
-ghost use Rattle.link_machine.specs.Calls.{facts_of, leaves_by, arrives_by, use_of, holder_by};
+ghost use Rattle.link_machine.specs.Calls.{facts_of, is_served_on, leaves_by, arrives_by, use_of, whose, holder_by};
 ghost use Rattle.radio_book.specs.Table.{is_target};
 
-use channel_fsm::ChanId;
+use crate::channel::Bar;
+use channel_fsm::{ChanId, ChanState};
 use link_tables::{Holder, Use};
 use radio_book::book::Book;
 use radio_book::event::{CallRecord, Timer};
@@ -53,6 +54,16 @@ pub(crate) fn is_target(chan: ChanId, target: Option<ChanId>) -> bool
     }
 }
 
+/// Whether a call is served on a channel.
+fn is_served_on(chan: ChanId, found: Option<CallRecord>) -> bool
+    ensures { result ≡ is_served_on chan found }
+{
+    match found {
+        Some(record) => is_target(chan, record.serving),
+        None => false,
+    }
+}
+
 /// Whether a call is served on a channel, and has an attempt at handover.
 fn leaves(chan: ChanId, found: Option<CallRecord>) -> bool
     ensures { result ≡ leaves_by chan found }
@@ -85,22 +96,41 @@ fn use_of<A: Allocator + Copy>(book: &Book<A>, calls: &[CallFacts], call: u16, c
     Use {
         leaves: leaves(chan, found),
         arrives: arrives(chan, found) && facts.is_away,
+        returns: is_served_on(chan, found) && facts.is_away,
         reports: facts.reports,
     }
 }
 
-/// Who has a channel, by the book, and whether a bar has it.
+/// What a call is that has a channel with this bar: the bar itself, or another call.
+fn whose<A: Allocator + Copy>(
+    book: &Book<A>,
+    calls: &[CallFacts],
+    chan: ChanId,
+    bar: Option<Bar>,
+    call: u16,
+) -> Holder
+    ensures { result ≡ whose book.now calls.now chan bar call }
+{
+    match bar {
+        Some(bar) if bar.call == call => Holder::Barred(bar.kind),
+        Some(_) | None => Holder::Call(use_of(book, calls, call, chan)),
+    }
+}
+
+/// Who has a channel with this bar, by the book.
 pub fn holder_of<A: Allocator + Copy>(
     book: &Book<A>,
     calls: &[CallFacts],
     chan: ChanId,
-    is_barred: bool,
+    bar: Option<Bar>,
 ) -> Holder
-    ensures holder { result ≡ holder_by book.now calls.now chan is_barred }
+    ensures holder { result ≡ holder_by book.now calls.now chan bar }
 {
-    match book.owner(chan) {
-        None => Holder::Nobody,
-        Some(_) if is_barred => Holder::Barred,
-        Some(call) => Holder::Call(use_of(book, calls, call, chan)),
+    match book.state(chan) {
+        ChanState::Free => Holder::Nobody,
+        ChanState::Off => Holder::Past,
+        ChanState::Held(call) | ChanState::Pending(call) | ChanState::On(call) => {
+            whose(book, calls, chan, bar, call)
+        }
     }
 }

@@ -20,11 +20,11 @@ mod pass;
 mod stations;
 mod timers;
 
-pub use attempts::undone_on;
+pub use attempts::{end_on, undone_on};
 pub use calls::CallFacts;
-pub use channel::{Channel, InPlace};
-pub use laws::{settled_agrees, timers_follow};
+pub use channel::{Bar, Channel, InPlace};
+pub use laws::{bars_hold, clocks_run, settled_agrees, timers_follow, told_agrees};
 pub use machine::Machine;
-pub use moving::{Done, Moved, TurnFacts, Word, settled, told};
+pub use moving::{Done, Moved, TurnFacts, Word, linked, settled, told};
 pub use stations::{Said, said_by};
 pub use timers::TimerChange;

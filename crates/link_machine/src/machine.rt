@@ -1,27 +1,26 @@
 //! All channels of a site.
-ghost use Rattle.std.specs.Prelude.{◌≡◌, ◌↔◌, ◌++◌, map, position, replicate, Ok, None, IfOk, OnOk, slice_set};
+ghost use Rattle.std.specs.Prelude.{◌≡◌, ◌↔◌, ◌++◌, ℕ, map, position, replicate, Ok, None, IfOk, OnOk, OnErr, slice_set};
 ghost use Rattle.cell_table.specs.Site.{channels, index_of};
 ghost use Rattle.radio_book.specs.Kinds.{call_of};
-ghost use Rattle.link_machine.specs.Attempts.{undone_on, if_moved, if_done};
+ghost use Rattle.link_machine.specs.Attempts.{undone_on, ended_at, done_at};
 ghost use Rattle.link_machine.specs.Channels.{fresh, listed, owes};
 ghost use Rattle.link_machine.specs.Calls.{plain, facts_of};
 ghost use Rattle.link_machine.specs.Laws.{AllAgree};
-ghost use Rattle.link_machine.specs.Machine.{all_moved, all_done, channel_at, one_moved, one_done, owed_of, first_owed, first_paid, IsOwedNothing};
+ghost use Rattle.link_machine.specs.Machine.{all_moved, all_done, channel_at, one_moved, one_done, owed_of, opened, paid, first_owed, first_paid, moved_until, done_until, IsOwedNothing};
 ghost use Rattle.link_machine.specs.Moving.{told};
 ghost use Rattle.link_machine.specs.Passes.{passed};
-ghost use Rattle.link_machine.specs.Timers.{change_by, followed_by};
+ghost use Rattle.link_machine.specs.Timers.{change_by, followed_by, ran_out, is_running};
 
-use crate::attempts::undone_on;
+use crate::attempts::{end_on, undone_on};
 use crate::calls::{CallFacts, facts_of};
-use crate::channel::{Channel, InPlace};
+use crate::channel::{Bar, Channel, InPlace};
 use crate::moving::{Done, TurnFacts, Word, told};
 use crate::pass::{Pass, go_through};
-use crate::timers::{TimerChange, change_of, with_timer};
+use crate::timers::{TimerChange, change_of, is_armed, with_timer};
 use cell_table::Site;
 use channel_fsm::ChanId;
-use link_tables::AttemptEnd;
 use radio_book::book::Book;
-use radio_book::event::{Event, Reply};
+use radio_book::event::{Event, Reply, Timer};
 use radio_book::facts;
 use std::alloc::{AllocError, Allocator, Global};
 use std::sync::Arc;
@@ -99,6 +98,28 @@ fn owed_of(channel: Channel) -> Option<(ChanId, InPlace)>
     }
 }
 
+/// The bar of a channel about which the controller reads what it was owed. A bar that is opened has this number.
+fn opened(number: u16, owed: Option<InPlace>, bar: Option<Bar>) -> Option<Bar>
+    ensures { result ≡ opened number owed bar }
+{
+    match owed {
+        Some(InPlace::OpenBar(kind)) => Some(Bar { call: number, kind }),
+        Some(InPlace::Refusal | InPlace::Release | InPlace::Failure) => bar,
+        Some(InPlace::EndBar(_)) | None => bar,
+    }
+}
+
+/// A channel about which the controller reads what it was owed.
+fn paid(number: u16, channel: Channel) -> Channel
+    ensures { result ≡ paid number channel }
+{
+    Channel {
+        owed: None,
+        bar: opened(number, channel.owed, channel.bar),
+        ..channel
+    }
+}
+
 impl<A: Allocator + Copy> Machine<A> {
     /// A machine with all channels of a site at rest, no station there, and nothing known of calls.
     pub fn new(alloc: A, site: Arc<Site<A>, A>) -> Result<Machine<A>, AllocError>
@@ -122,6 +143,13 @@ impl<A: Allocator + Copy> Machine<A> {
     {
         let place = self.site.index_of(chan)?;
         self.channels.get(place).copied()
+    }
+
+    /// What is known of all channels of the site, by their places there.
+    pub fn channels(&self) -> &[Channel]
+        ensures channels { result.now ≡ self.now.channels.items }
+    {
+        self.channels.as_slice()
     }
 
     /// What is known of a call.
@@ -161,21 +189,52 @@ impl<A: Allocator + Copy> Machine<A> {
     }
 
     /// What the controller is owed about the first channel, by place, about which it is owed anything; it is no longer owed
-    /// then. `None` exactly if it is owed nothing.
-    pub fn take_owed(&mut self) -> Option<(ChanId, InPlace)>
+    /// then. A bar that is to be opened has this number from then on. `None` exactly if the controller is owed nothing.
+    pub fn take_owed(&mut self, number: u16) -> Option<(ChanId, InPlace)>
         ensures owed { result ≡ first_owed self.old.channels.items }
-        ensures channels { self.new.channels.items ≡ first_paid self.old.channels.items }
+        ensures channels { self.new.channels.items ≡ first_paid number self.old.channels.items }
         ensures none { (result ≡ None) ↔ IsOwedNothing self.old.channels.items }
         ensures calls { self.new.calls.items ≡ self.old.calls.items }
         ensures site { self.new.site.value ≡ self.old.site.value }
     {
         let place = first_owing(&self.channels)?;
         let channel = *self.channels.get(place)?;
-        self.channels[place] = Channel {
-            owed: None,
-            ..channel
-        };
+        self.channels[place] = paid(number, channel);
         owed_of(channel)
+    }
+
+    /// Notes that a timer of a call ran out: it runs no longer. If it doesn't run, returns `false`, and nothing changes.
+    pub fn run_out(&mut self, call: u16, timer: Timer) -> bool
+        ensures ran { result ≡ is_running self.old.calls.items call timer }
+        ensures calls { self.new.calls.items ≡ ran_out self.old.calls.items call timer }
+        ensures channels { self.new.channels.items ≡ self.old.channels.items }
+        ensures site { self.new.site.value ≡ self.old.site.value }
+    {
+        let known = self.facts(call);
+        if !is_armed(timer, known.timer) {
+            return false;
+        }
+        self.set_facts(
+            call,
+            CallFacts {
+                timer: None,
+                ..known
+            },
+        );
+        true
+    }
+
+    /// Makes the timer of a call run exactly if the book has it armed. Returns what stops and starts; `None` if nothing does.
+    pub fn follow_call(&mut self, book: &Book<A>, call: u16) -> Option<TimerChange>
+        ensures change { result ≡ change_by book.now self.old.calls.items (Some call) }
+        ensures calls { self.new.calls.items ≡ followed_by book.now self.old.calls.items (Some call) }
+        ensures channels { self.new.channels.items ≡ self.old.channels.items }
+        ensures site { self.new.site.value ≡ self.old.site.value }
+    {
+        let known = self.facts(call);
+        let timer = book.timer(call);
+        self.set_facts(call, with_timer(known, book.record(call), timer));
+        change_of(call, known.timer, timer)
     }
 
     /// Follows an event of the turn that the book has just had: from now on the timer of the event's call runs exactly if
@@ -189,34 +248,32 @@ impl<A: Allocator + Copy> Machine<A> {
         ensures site { self.new.site.value ≡ self.old.site.value }
     {
         let call = facts::facts_of(event).about.call()?;
-        let known = self.facts(call);
-        let timer = book.timer(call);
-        self.set_facts(call, with_timer(known, book.record(call), timer));
-        change_of(call, known.timer, timer)
+        self.follow_call(book, call)
     }
 
-    /// Follows an event of a turn, with its reply. If it undoes an attempt at handover, that ended in this way, and the
-    /// channel that serves its call tells a failure that was kept, or drops it.
+    /// Follows an event of a turn, with its reply. If it undoes an attempt at handover, the channel that serves its call
+    /// tells a failure that was kept, or drops it. `back` is the channel that the mobile says it came back to.
     pub fn end_attempt(
         &mut self,
         book: &Book<A>,
         event: Event,
         reply: Reply,
-        end: AttemptEnd,
+        back: Option<ChanId>,
     ) -> Option<Done>
-        ensures done { result ≡ if_done (told book.now self.old.calls.items (Word.AttemptEnded end))
+        ensures done { result ≡ done_at book.now self.old.calls.items back
             self.old.site.value self.old.channels.items (undone_on event reply) }
-        ensures channels { self.new.channels.items ≡
-            if_moved (told book.now self.old.calls.items (Word.AttemptEnded end))
+        ensures channels { self.new.channels.items ≡ ended_at book.now self.old.calls.items back
             self.old.site.value self.old.channels.items (undone_on event reply) }
         ensures calls { self.new.calls.items ≡ self.old.calls.items }
         ensures site { self.new.site.value ≡ self.old.site.value }
     {
         let chan = undone_on(event, reply)?;
-        self.tell(book, chan, Word::AttemptEnded(end))
+        self.tell(book, chan, Word::AttemptEnded(end_on(back, chan)))
     }
 
-    /// Tells that the link of a TRX of a cell has come up, or is lost: each of its channels does what its row says.
+    /// Tells that the link of a TRX of a cell has come up, or is lost: each of its channels does what its row says. Channels
+    /// that agreed with the book still agree with it, unless the controller is owed something about them. If memory is
+    /// refused, the channels that have moved are the first ones of the site, and `out` has what they do.
     pub fn link(
         &mut self,
         book: &Book<A>,
@@ -231,6 +288,13 @@ impl<A: Allocator + Copy> Machine<A> {
         ensures done { OnOk result (out.new.items ≡ out.old.items ++
             all_done (passed book.now self.old.calls.items (Pass.Link cell trx is_up))
             self.old.channels.items) }
+        ensures told { OnErr result ((n : ℕ) ×
+            (self.new.channels.items ≡ moved_until (passed book.now self.old.calls.items
+            (Pass.Link cell trx is_up)) n self.old.channels.items) ×
+            (out.new.items ≡ out.old.items ++ done_until (passed book.now self.old.calls.items
+            (Pass.Link cell trx is_up)) n self.old.channels.items)) }
+        ensures agree { OnOk result (AllAgree book.now self.old.channels.items →
+            AllAgree book.now self.new.channels.items) }
         ensures calls { self.new.calls.items ≡ self.old.calls.items }
         ensures site { self.new.site.value ≡ self.old.site.value }
     {
@@ -240,7 +304,8 @@ impl<A: Allocator + Copy> Machine<A> {
 
     /// Tells that the controller has had a turn. Each channel about which it is owed nothing does what its row says, if the
     /// book has changed it, and is barred if it is to be. After this each channel agrees with the book, unless the
-    /// controller is owed something about it.
+    /// controller is owed something about it. If memory is refused, the channels that have moved are the first ones of the
+    /// site, and `out` has what they do.
     pub fn settle(
         &mut self,
         book: &Book<A>,
@@ -251,6 +316,11 @@ impl<A: Allocator + Copy> Machine<A> {
             all_moved (passed book.now self.old.calls.items (Pass.Turn turn)) self.old.channels.items) }
         ensures done { OnOk result (out.new.items ≡ out.old.items ++
             all_done (passed book.now self.old.calls.items (Pass.Turn turn)) self.old.channels.items) }
+        ensures told { OnErr result ((n : ℕ) ×
+            (self.new.channels.items ≡ moved_until (passed book.now self.old.calls.items
+            (Pass.Turn turn)) n self.old.channels.items) ×
+            (out.new.items ≡ out.old.items ++ done_until (passed book.now self.old.calls.items
+            (Pass.Turn turn)) n self.old.channels.items)) }
         ensures agree { OnOk result (AllAgree book.now self.new.channels.items) }
         ensures calls { self.new.calls.items ≡ self.old.calls.items }
         ensures site { self.new.site.value ≡ self.old.site.value }

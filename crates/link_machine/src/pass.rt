@@ -1,11 +1,11 @@
 //! What all channels of a site do, one after the other.
 ghost use Rattle.std.specs.Prelude.{◌≡◌, ◌++◌, ℕ, OnOk, OnErr};
-ghost use Rattle.link_machine.specs.Machine.{quiet, told_of, moved_until, done_until, all_moved, all_done};
+ghost use Rattle.link_machine.specs.Machine.{quiet, is_quiet, told_of, moved_until, done_until, all_moved, all_done};
 ghost use Rattle.link_machine.specs.Passes.{passed};
 
 use crate::calls::CallFacts;
 use crate::channel::Channel;
-use crate::moving::{Done, Moved, TurnFacts, Word, settled, still, told};
+use crate::moving::{Done, Moved, TurnFacts, linked, settled, still};
 use link_tables::Act;
 use radio_book::book::Book;
 use std::alloc::{AllocError, Allocator};
@@ -31,7 +31,7 @@ fn passed<A: Allocator + Copy>(
     match pass {
         Pass::Link { cell, trx, is_up } => {
             if channel.chan.cell == cell && channel.chan.trx == trx {
-                told(book, calls, channel, Word::Link(is_up))
+                linked(book, calls, channel, is_up)
             } else {
                 still(channel)
             }
@@ -50,12 +50,19 @@ fn is_nothing(acts: [Option<Act>; 3]) -> bool
     }
 }
 
+/// Whether a channel does nothing.
+fn is_quiet(done: Done) -> bool
+    ensures { result ≡ is_quiet done }
+{
+    is_nothing(done.acts) && is_nothing(done.bar) && done.clock.is_none()
+}
+
 /// Appends what a channel does, if it does anything.
 pub fn push_done<A: Allocator>(out: &mut Vec<Done, A>, done: Done) -> Result<(), AllocError>
     ensures told { OnOk result (out.new.items ≡ out.old.items ++ told_of done) }
     ensures unchanged { OnErr result (out.new.items ≡ out.old.items) }
 {
-    if is_nothing(done.acts) && is_nothing(done.bar) {
+    if is_quiet(done) {
         return Ok(());
     }
     out.push(done)?;

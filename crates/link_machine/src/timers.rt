@@ -15,7 +15,7 @@ pub struct TimerChange {
 }
 
 /// Whether this timer is the one that is armed.
-fn is_armed(timer: Timer, armed: Option<Timer>) -> bool
+pub fn is_armed(timer: Timer, armed: Option<Timer>) -> bool
     ensures { result ≡ is_armed timer armed }
 {
     match armed {

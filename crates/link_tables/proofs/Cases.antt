@@ -6,9 +6,9 @@ use Rattle.std.proofs.lemmas.Bool.{false≢true, true≢false}
 use Rattle.channel_fsm.specs.declared.ChanState.{ChanState}
 use Rattle.link_tables.specs.declared.Lchan.{Lchan}
 use Rattle.link_tables.specs.declared.Heard.{Heard}
-use Rattle.link_tables.specs.declared.Heard.TheVariants.{ActivationAck, ActivationNack, ReleaseAck, ConnectionFailure, HandoverDetection, HandoverComplete, MeasurementResult, DataIndication, EstablishIndication, ReleaseIndication, Expired, LinkLost, LinkUp, BarAsked, UnbarAsked}
+use Rattle.link_tables.specs.declared.Heard.TheVariants.{ActivationAck, ActivationNack, ReleaseAck, ConnectionFailure, HandoverDetection, HandoverComplete, HandoverFailure, MeasurementResult, DataIndication, EstablishIndication, ReleaseIndication, Expired, LinkLost, LinkUp, BarAsked, UnbarAsked}
 use Rattle.link_tables.specs.declared.Holder.{Holder}
-use Rattle.link_tables.specs.declared.Holder.TheVariants.{Nobody, Barred, Call}
+use Rattle.link_tables.specs.declared.Holder.TheVariants.{Nobody, Past, Barred, Call}
 use Rattle.link_tables.specs.declared.Timer.{Timer}
 use Rattle.link_tables.specs.declared.Timer.TheVariants.{Activation, T3109, T3111, Release, Bar}
 use Rattle.link_tables.specs.declared.Act.TheVariants as act
@@ -16,7 +16,7 @@ use Rattle.link_tables.specs.declared.Circumstances.{Circumstances}
 use Rattle.link_tables.specs.Acts.{lchans}
 use Rattle.link_tables.specs.Hearing.{heard_step, same_heard}
 use Rattle.link_tables.specs.Settling.{settled_step, is_on}
-use Rattle.link_tables.specs.Laws.{SettledAgrees, HeardAsksOnce, SettledAsksOnce, HeardAwaits, SettledAwaits, ClosingEnds, HeardRuns, SettledRuns, agrees_behind, asks, awaits, awaited, does, runs, runs_behind}
+use Rattle.link_tables.specs.Laws.{SettledAgrees, HeardAgrees, HeardAsksOnce, SettledAsksOnce, HeardAwaits, SettledAwaits, ClosingEnds, HeardRuns, SettledRuns, ClockRuns, agrees, agrees_behind, asks, awaits, awaited, does, runs, runs_behind}
 use Rattle.link_tables.proofs.Every.{every_lchan, every_heard, every_holder, every_standing, every_book, heards, holders, standings, books}
 
 -- TESTS
@@ -55,6 +55,18 @@ settled_each p all l b n s =
 pub settled_agree : SettledAgrees
 settled_agree = settled_each (λ l b n s. agrees_behind n (settled_step l b n s)) (λ c d. refl)
 
+abbrev keeps_agreement : Lchan → Heard → Holder → ChanState → Bool
+keeps_agreement l h w b = not (agrees b l) || (does (heard_step l h w).acts act.Give || agrees_behind b (heard_step l h w))
+
+-- the same of each state of the book
+agreement_kept : (c : ℕ) → (l : Lchan) (h : Heard) (w : Holder) → list_all (keeps_agreement l h w) (books c) ≡ true
+agreement_kept c = heard_each (λ l h w. list_all (keeps_agreement l h w) (books c)) refl
+
+pub heard_agree : HeardAgrees
+heard_agree l h w b agreed given =
+    where_so (agrees b l) (does (heard_step l h w).acts act.Give) (agrees_behind b (heard_step l h w))
+    (every_book (keeps_agreement l h w) (λ c. agreement_kept c l h w) b) agreed given
+
 pub heard_asks_once : HeardAsksOnce
 heard_asks_once l h w = never_both (asks (heard_step l h w)) (awaited l h) (heard_each (λ l h w. not (asks (heard_step l h w) && awaited l h)) refl l h w)
 
@@ -81,6 +93,7 @@ closing_ends ReleaseAck w = inr (inl refl)
 closing_ends ConnectionFailure w = inl refl
 closing_ends HandoverDetection w = inl refl
 closing_ends HandoverComplete w = inl refl
+closing_ends HandoverFailure w = inl refl
 closing_ends MeasurementResult w = inl refl
 closing_ends DataIndication w = inl refl
 closing_ends EstablishIndication w = inl refl
@@ -89,7 +102,8 @@ closing_ends LinkLost w = inr (inr refl)
 closing_ends LinkUp w = inl refl
 closing_ends BarAsked w = inl refl
 closing_ends UnbarAsked Nobody = inl refl
-closing_ends UnbarAsked Barred = inl refl
+closing_ends UnbarAsked Past = inl refl
+closing_ends UnbarAsked (Barred kind) = inl refl
 closing_ends UnbarAsked (Call u) = inl refl
 closing_ends (Expired Activation) w = inl refl
 closing_ends (Expired T3109) w = inl refl
@@ -124,3 +138,9 @@ heard_runs l h w t own =
 pub settled_runs : SettledRuns
 settled_runs l b n s t own =
     same_is (runs_behind (settled_step l b n s).acts t (runs l t)) (runs (settled_step l b n s).next t) (settled_runs_each t own l b n s)
+
+pub clock_runs : ClockRuns
+clock_runs false false = refl
+clock_runs false true = refl
+clock_runs true false = refl
+clock_runs true true = refl

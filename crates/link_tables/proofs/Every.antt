@@ -8,10 +8,11 @@ use Rattle.channel_fsm.specs.declared.ChanState.TheVariants as book
 use Rattle.link_tables.specs.declared.Lchan.{Lchan}
 use Rattle.link_tables.specs.declared.Lchan.TheVariants.{Rest, Activating, On, Mobile, Guard, Releasing, Closing, Reopening, Lost}
 use Rattle.link_tables.specs.declared.Heard.{Heard}
-use Rattle.link_tables.specs.declared.Heard.TheVariants.{ActivationAck, ActivationNack, ReleaseAck, ConnectionFailure, HandoverDetection, HandoverComplete, MeasurementResult, DataIndication, EstablishIndication, ReleaseIndication, Expired, LinkLost, LinkUp, BarAsked, UnbarAsked}
+use Rattle.link_tables.specs.declared.Heard.TheVariants.{ActivationAck, ActivationNack, ReleaseAck, ConnectionFailure, HandoverDetection, HandoverComplete, MeasurementResult, DataIndication, EstablishIndication, ReleaseIndication, Expired, LinkLost, LinkUp, BarAsked, UnbarAsked, HandoverFailure}
 use Rattle.link_tables.specs.declared.Timer.TheVariants.{Activation, T3109, T3111, Release, Bar}
+use Rattle.link_tables.specs.declared.BarKind.TheVariants.{Timed, Lasting}
 use Rattle.link_tables.specs.declared.Holder.{Holder}
-use Rattle.link_tables.specs.declared.Holder.TheVariants.{Nobody, Barred, Call}
+use Rattle.link_tables.specs.declared.Holder.TheVariants.{Nobody, Past, Barred, Call}
 use Rattle.link_tables.specs.declared.Circumstances.{Circumstances}
 use Rattle.link_tables.specs.Acts.{lchans}
 
@@ -38,7 +39,7 @@ every_lchan p all Reopening = at p lchans all 7 Reopening refl
 every_lchan p all Lost = at p lchans all 8 Lost refl
 
 abbrev pub heards : List Heard
-heards = ActivationAck ∷ ActivationNack ∷ ReleaseAck ∷ ConnectionFailure ∷ HandoverDetection ∷ HandoverComplete ∷ MeasurementResult ∷ DataIndication ∷ EstablishIndication ∷ ReleaseIndication ∷ LinkLost ∷ LinkUp ∷ BarAsked ∷ UnbarAsked ∷ Expired Activation ∷ Expired T3109 ∷ Expired T3111 ∷ Expired Release ∷ Expired Bar ∷ []
+heards = ActivationAck ∷ ActivationNack ∷ ReleaseAck ∷ ConnectionFailure ∷ HandoverDetection ∷ HandoverComplete ∷ MeasurementResult ∷ DataIndication ∷ EstablishIndication ∷ ReleaseIndication ∷ LinkLost ∷ LinkUp ∷ BarAsked ∷ UnbarAsked ∷ Expired Activation ∷ Expired T3109 ∷ Expired T3111 ∷ Expired Release ∷ Expired Bar ∷ HandoverFailure ∷ []
 
 pub every_heard : (p : Heard → Bool) → list_all p heards ≡ true → (x : Heard) → p x ≡ true
 every_heard p all ActivationAck = at p heards all 0 ActivationAck refl
@@ -60,27 +61,38 @@ every_heard p all (Expired T3109) = at p heards all 15 (Expired T3109) refl
 every_heard p all (Expired T3111) = at p heards all 16 (Expired T3111) refl
 every_heard p all (Expired Release) = at p heards all 17 (Expired Release) refl
 every_heard p all (Expired Bar) = at p heards all 18 (Expired Bar) refl
+every_heard p all HandoverFailure = at p heards all 19 HandoverFailure refl
 
-abbrev use_of : Bool → Bool → Bool → Holder
-use_of a b c = Call (record { leaves = a; arrives = b; reports = c })
+abbrev use_of : Bool → Bool → Bool → Bool → Holder
+use_of a b c d = Call (record { leaves = a; arrives = b; returns = c; reports = d })
 
 abbrev pub holders : List Holder
-holders = Nobody ∷ Barred ∷ use_of true true true ∷ use_of true true false ∷ use_of true false true ∷ use_of true false false ∷ use_of false true true ∷ use_of false true false ∷ use_of false false true ∷ use_of false false false ∷ []
+holders = Nobody ∷ Past ∷ Barred Timed ∷ Barred Lasting ∷ use_of true true true true ∷ use_of true true true false ∷ use_of true true false true ∷ use_of true true false false ∷ use_of true false true true ∷ use_of true false true false ∷ use_of true false false true ∷ use_of true false false false ∷ use_of false true true true ∷ use_of false true true false ∷ use_of false true false true ∷ use_of false true false false ∷ use_of false false true true ∷ use_of false false true false ∷ use_of false false false true ∷ use_of false false false false ∷ []
 
-calls : (p : Holder → Bool) → list_all p holders ≡ true → (a b c : Bool) → p (use_of a b c) ≡ true
-calls p all true true true = at p holders all 2 (use_of true true true) refl
-calls p all true true false = at p holders all 3 (use_of true true false) refl
-calls p all true false true = at p holders all 4 (use_of true false true) refl
-calls p all true false false = at p holders all 5 (use_of true false false) refl
-calls p all false true true = at p holders all 6 (use_of false true true) refl
-calls p all false true false = at p holders all 7 (use_of false true false) refl
-calls p all false false true = at p holders all 8 (use_of false false true) refl
-calls p all false false false = at p holders all 9 (use_of false false false) refl
+calls : (p : Holder → Bool) → list_all p holders ≡ true → (a b c d : Bool) → p (use_of a b c d) ≡ true
+calls p all true true true true = at p holders all 4 (use_of true true true true) refl
+calls p all true true true false = at p holders all 5 (use_of true true true false) refl
+calls p all true true false true = at p holders all 6 (use_of true true false true) refl
+calls p all true true false false = at p holders all 7 (use_of true true false false) refl
+calls p all true false true true = at p holders all 8 (use_of true false true true) refl
+calls p all true false true false = at p holders all 9 (use_of true false true false) refl
+calls p all true false false true = at p holders all 10 (use_of true false false true) refl
+calls p all true false false false = at p holders all 11 (use_of true false false false) refl
+calls p all false true true true = at p holders all 12 (use_of false true true true) refl
+calls p all false true true false = at p holders all 13 (use_of false true true false) refl
+calls p all false true false true = at p holders all 14 (use_of false true false true) refl
+calls p all false true false false = at p holders all 15 (use_of false true false false) refl
+calls p all false false true true = at p holders all 16 (use_of false false true true) refl
+calls p all false false true false = at p holders all 17 (use_of false false true false) refl
+calls p all false false false true = at p holders all 18 (use_of false false false true) refl
+calls p all false false false false = at p holders all 19 (use_of false false false false) refl
 
 pub every_holder : (p : Holder → Bool) → list_all p holders ≡ true → (x : Holder) → p x ≡ true
 every_holder p all Nobody = at p holders all 0 Nobody refl
-every_holder p all Barred = at p holders all 1 Barred refl
-every_holder p all (Call u) = calls p all u.leaves u.arrives u.reports
+every_holder p all Past = at p holders all 1 Past refl
+every_holder p all (Barred Timed) = at p holders all 2 (Barred Timed) refl
+every_holder p all (Barred Lasting) = at p holders all 3 (Barred Lasting) refl
+every_holder p all (Call u) = calls p all u.leaves u.arrives u.returns u.reports
 
 abbrev standing : Bool → Bool → Bool → Circumstances
 standing a b c = record { has_link = a; said_channel_release = b; is_bar = c }

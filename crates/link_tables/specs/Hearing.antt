@@ -4,9 +4,11 @@ use Rattle.std.specs.Prelude.{ℕ, ◌==◌, ◌&&◌, Bool, true, false, List, 
 use Rattle.link_tables.specs.declared.Lchan.{Lchan}
 use Rattle.link_tables.specs.declared.Lchan.TheVariants.{Rest, Activating, On, Mobile, Guard, Releasing, Closing, Reopening, Lost}
 use Rattle.link_tables.specs.declared.Heard.{Heard}
-use Rattle.link_tables.specs.declared.Heard.TheVariants.{ActivationAck, ActivationNack, ReleaseAck, ConnectionFailure, HandoverDetection, HandoverComplete, MeasurementResult, DataIndication, EstablishIndication, ReleaseIndication, Expired, LinkLost, LinkUp, BarAsked, UnbarAsked}
+use Rattle.link_tables.specs.declared.Heard.TheVariants.{ActivationAck, ActivationNack, ReleaseAck, ConnectionFailure, HandoverDetection, HandoverComplete, HandoverFailure, MeasurementResult, DataIndication, EstablishIndication, ReleaseIndication, Expired, LinkLost, LinkUp, BarAsked, UnbarAsked}
+use Rattle.link_tables.specs.declared.BarKind.{BarKind}
+use Rattle.link_tables.specs.declared.BarKind.TheVariants.{Timed, Lasting}
 use Rattle.link_tables.specs.declared.Holder.{Holder}
-use Rattle.link_tables.specs.declared.Holder.TheVariants.{Nobody, Barred, Call}
+use Rattle.link_tables.specs.declared.Holder.TheVariants.{Nobody, Past, Barred, Call}
 use Rattle.link_tables.specs.declared.Timer.TheVariants.{Activation, T3109, T3111, Release, Bar}
 use Rattle.link_tables.specs.declared.Act.TheVariants as act
 use Rattle.link_tables.specs.declared.Act.TheVariants.{Give, Pass, Count, RefuseInPlace, ReleaseInPlace, FailInPlace, KeepFailure, SendActivation, SendRelease, Start, Stop, OpenBar, EndBar}
@@ -18,34 +20,57 @@ use Rattle.link_tables.specs.Acts.{Acts, nothing, one, two, three, stopped, lcha
 abbrev pub anyone : Holder → Bool
 anyone holder = true
 
--- no call has it
+-- no call has it, and the book waits for nothing
 abbrev pub nobody : Holder → Bool
 nobody Nobody = true
-nobody Barred = false
+nobody Past = false
+nobody (Barred kind) = false
 nobody (Call c) = false
 
 -- a bar has it
 abbrev pub barred : Holder → Bool
 barred Nobody = false
-barred Barred = true
+barred Past = false
+barred (Barred kind) = true
 barred (Call c) = false
+
+abbrev ends_by_clock : BarKind → Bool
+ends_by_clock Timed = true
+ends_by_clock Lasting = false
+
+-- a bar that a clock ends
+abbrev pub timed : Holder → Bool
+timed Nobody = false
+timed Past = false
+timed (Barred kind) = ends_by_clock kind
+timed (Call c) = false
 
 -- a call is served on it, and has an attempt at handover
 abbrev pub leaves : Holder → Bool
 leaves Nobody = false
-leaves Barred = false
+leaves Past = false
+leaves (Barred kind) = false
 leaves (Call c) = c.leaves
 
 -- a call is to arrive on it, and its mobile was told to leave where it is
 abbrev pub arrives : Holder → Bool
 arrives Nobody = false
-arrives Barred = false
+arrives Past = false
+arrives (Barred kind) = false
 arrives (Call c) = c.arrives
+
+-- a call is served on it, and its mobile was told to leave it
+abbrev pub returns : Holder → Bool
+returns Nobody = false
+returns Past = false
+returns (Barred kind) = false
+returns (Call c) = c.returns
 
 -- the measurements of its call are heeded
 abbrev pub reports : Holder → Bool
 reports Nobody = false
-reports Barred = false
+reports Past = false
+reports (Barred kind) = false
 reports (Call c) = c.reports
 
 -- ROWS
@@ -88,12 +113,12 @@ singles =
     -- L24: the call can't be heard any more (48.058 clause 8.4.4)
     row On LinkLost leaves (two FailInPlace KeepFailure) Lost ∷
     row On LinkLost anyone (one FailInPlace) Lost ∷
-    -- B2: the bar of a channel at rest ran out
-    row Rest (Expired Bar) barred (one EndBar) Rest ∷
+    -- B2: the clock of a bar ran out
+    row Rest (Expired Bar) timed (one EndBar) Rest ∷
     -- B4: an operator bars a channel that no call has, or ends a bar
-    row Rest BarAsked nobody (one OpenBar) Rest ∷
-    row Rest UnbarAsked barred (two (Stop Bar) EndBar) Rest ∷
-    row Closing UnbarAsked barred (two (Stop Bar) EndBar) Closing ∷ []
+    row Rest BarAsked nobody (one (OpenBar Lasting)) Rest ∷
+    row Rest UnbarAsked barred (one EndBar) Rest ∷
+    row Closing UnbarAsked barred (one EndBar) Closing ∷ []
 
 -- L14: it is at rest (48.058 clause 8.4.19)
 abbrev released : List Row
@@ -101,13 +126,13 @@ released = map (λ s. row s ReleaseAck anyone (stopped s ∷ Some Give ∷ None 
 
 -- L16, L25: RF CHANNEL RELEASE ACKNOWLEDGE or the link's end alone ends Closing; and then B3: the bar ends with it
 abbrev ended : List Row
-ended = map (λ h. row Closing h barred (two (Stop Bar) EndBar) Rest) (ReleaseAck ∷ LinkLost ∷ []) ++
+ended = map (λ h. row Closing h barred (one EndBar) Rest) (ReleaseAck ∷ LinkLost ∷ []) ++
     map (λ h. row Closing h anyone nothing Rest) (ReleaseAck ∷ LinkLost ∷ [])
 
 -- L18: a station that speaks on a channel of no call has it active: it is released
 abbrev strays : List Row
 strays = map (λ h. row Rest h nobody (two SendRelease Count) Closing)
-    (ActivationAck ∷ ConnectionFailure ∷ HandoverDetection ∷ HandoverComplete ∷
+    (ActivationAck ∷ ConnectionFailure ∷ HandoverDetection ∷ HandoverComplete ∷ HandoverFailure ∷
     MeasurementResult ∷ DataIndication ∷ EstablishIndication ∷ [])
 
 -- L20, L27: a mobile arrives, and not a stranger (48.058 clauses 4.3 and 8.4.7, 44.018 clause 9.1.16). Where the link was lost
@@ -115,6 +140,10 @@ strays = map (λ h. row Rest h nobody (two SendRelease Count) Closing)
 abbrev arrivals : List Row
 arrivals = map (λ h. row On h arrives (one Give) On) (HandoverDetection ∷ HandoverComplete ∷ []) ++
     map (λ h. row Lost h arrives (one Give) On) (HandoverDetection ∷ HandoverComplete ∷ [])
+
+-- L34: the mobile came back (44.018 clauses 3.4.4.4 and 9.1.17)
+abbrev back : List Row
+back = map (λ s. row s HandoverFailure returns (one Give) s) (On ∷ Lost ∷ [])
 
 -- L33: what the rows of calls are for (48.058 clause 8.3)
 abbrev passed : List Row
@@ -133,7 +162,7 @@ came = map (λ s. row s LinkUp anyone nothing s) lchans
 
 -- The rows: the first that fits counts.
 abbrev pub rows : List Row
-rows = singles ++ released ++ ended ++ strays ++ arrivals ++ passed ++ lost ++ came
+rows = singles ++ released ++ ended ++ strays ++ arrivals ++ back ++ passed ++ lost ++ came
 
 -- THE STEP
 
@@ -157,6 +186,7 @@ heard_number (Expired T3109) = 15
 heard_number (Expired T3111) = 16
 heard_number (Expired Release) = 17
 heard_number (Expired Bar) = 18
+heard_number HandoverFailure = 19
 
 abbrev pub same_heard : Heard → Heard → Bool
 same_heard one other = heard_number one == heard_number other

@@ -6,6 +6,7 @@ use Rattle.channel_fsm.specs.declared.ChanState.{ChanState}
 use Rattle.channel_fsm.specs.declared.ChanState.TheVariants as book
 use Rattle.channel_fsm.specs.declared.ChanEvent.TheVariants as event
 use Rattle.channel_fsm.specs.Table.{next_state}
+use Rattle.link_tables.specs.declared.BarKind.TheVariants.{Timed, Lasting}
 use Rattle.link_tables.specs.declared.Lchan.{Lchan}
 use Rattle.link_tables.specs.declared.Lchan.TheVariants.{Rest, Activating, On, Mobile, Guard, Releasing, Closing, Reopening, Lost}
 use Rattle.link_tables.specs.declared.Heard.{Heard}
@@ -18,6 +19,7 @@ use Rattle.link_tables.specs.declared.Act.TheVariants as act
 use Rattle.link_tables.specs.declared.Circumstances.{Circumstances}
 use Rattle.link_tables.specs.declared.Step.{Step}
 use Rattle.link_tables.specs.Acts.{Acts, same_lchan, timer_of}
+use Rattle.link_tables.specs.Bars.{clock_change}
 use Rattle.link_tables.specs.Hearing.{heard_step, same_heard}
 use Rattle.link_tables.specs.Settling.{settled_step, is_on}
 
@@ -38,7 +40,7 @@ act_number act.SendChannelRelease = 10
 act_number act.SendDeactivateSacch = 11
 act_number act.Bar = 12
 act_number act.BarByHolder = 13
-act_number act.OpenBar = 14
+act_number (act.OpenBar Timed) = 14
 act_number act.EndBar = 15
 act_number (act.Start Activation) = 16
 act_number (act.Start T3109) = 17
@@ -50,6 +52,7 @@ act_number (act.Stop T3109) = 22
 act_number (act.Stop T3111) = 23
 act_number (act.Stop Release) = 24
 act_number (act.Stop Bar) = 25
+act_number (act.OpenBar Lasting) = 26
 
 abbrev same_act : Act → Option Act → Bool
 same_act one None = false
@@ -85,6 +88,11 @@ agrees_behind book step = agrees (answered step.acts book) step.next
 abbrev pub SettledAgrees : Type 0
 SettledAgrees =
     (lchan : Lchan) (before now : ChanState) (c : Circumstances) → agrees_behind now (settled_step lchan before now c) ≡ true
+
+-- What is heard keeps agreement. Where the controller is given it, they agree once it has read that, and a turn follows.
+abbrev pub HeardAgrees : Type 0
+HeardAgrees = (lchan : Lchan) (heard : Heard) (holder : Holder) (book : ChanState) → agrees book lchan ≡ true →
+    does (heard_step lchan heard holder).acts act.Give ≡ false → agrees_behind book (heard_step lchan heard holder) ≡ true
 
 -- RELEASES
 
@@ -174,3 +182,7 @@ HeardRuns = (lchan : Lchan) (heard : Heard) (holder : Holder) (timer : Timer) �
 abbrev pub SettledRuns : Type 0
 SettledRuns = (lchan : Lchan) (before now : ChanState) (c : Circumstances) (timer : Timer) → timer ≢ Bar →
     RunsInState (settled_step lchan before now c) timer (runs lchan timer)
+
+-- The clock of a bar: it runs behind the change just where it is to run.
+abbrev pub ClockRuns : Type 0
+ClockRuns = (before after : Bool) → runs_behind (clock_change before after ∷ []) Bar before ≡ after

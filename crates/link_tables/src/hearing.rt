@@ -2,17 +2,16 @@
 ghost use Rattle.std.specs.Prelude.{◌≡◌, if◌then◌else◌};
 ghost use Rattle.link_tables.specs.declared.Lchan.TheVariants as state;
 ghost use Rattle.link_tables.specs.declared.Heard.TheVariants as message;
-ghost use Rattle.link_tables.specs.declared.Timer.TheVariants as timer;
 ghost use Rattle.link_tables.specs.declared.Act.TheVariants as act;
 ghost use Rattle.link_tables.specs.Acts.{nothing, one, two};
-ghost use Rattle.link_tables.specs.Hearing.{heard_step, nobody, barred, leaves, arrives, reports};
+ghost use Rattle.link_tables.specs.Hearing.{heard_step, nobody, barred, timed, leaves, arrives, returns, reports};
 
-use crate::{Act, Heard, Holder, Lchan, Step, Timer};
+use crate::{Act, BarKind, Heard, Holder, Lchan, Step, Timer};
 use Act::{
     Bar, Count, EndBar, FailInPlace, Give, KeepFailure, OpenBar, Pass, RefuseInPlace,
     ReleaseInPlace, SendActivation, SendRelease, Start, Stop,
 };
-use Holder::{Barred, Call, Nobody};
+use Holder::{Barred, Call, Nobody, Past};
 use Lchan::{Activating, Closing, Guard, Lost, Mobile, On, Releasing, Reopening, Rest};
 
 /// What a channel does when this is heard about it, and its state afterwards: the rows of docs/LINKS.md for what is heard.
@@ -27,6 +26,7 @@ pub fn hear(lchan: Lchan, heard: Heard, holder: Holder) -> Step
         Heard::ConnectionFailure => connection_failure(lchan, holder),
         Heard::HandoverDetection => handover_detection(lchan, holder),
         Heard::HandoverComplete => handover_complete(lchan, holder),
+        Heard::HandoverFailure => handover_failure(lchan, holder),
         Heard::MeasurementResult => measurement_result(lchan, holder),
         Heard::DataIndication => data_indication(lchan, holder),
         Heard::EstablishIndication => establish_indication(lchan, holder),
@@ -45,7 +45,7 @@ impl Holder {
     {
         match self {
             Nobody => true,
-            Barred | Call(_) => false,
+            Past | Barred(_) | Call(_) => false,
         }
     }
 
@@ -53,8 +53,17 @@ impl Holder {
         ensures value { result ≡ barred self }
     {
         match self {
-            Barred => true,
-            Nobody | Call(_) => false,
+            Barred(_) => true,
+            Nobody | Past | Call(_) => false,
+        }
+    }
+
+    fn is_timed(self) -> bool
+        ensures value { result ≡ timed self }
+    {
+        match self {
+            Barred(BarKind::Timed) => true,
+            Nobody | Past | Barred(BarKind::Lasting) | Call(_) => false,
         }
     }
 
@@ -63,7 +72,7 @@ impl Holder {
     {
         match self {
             Call(call) => call.leaves,
-            Nobody | Barred => false,
+            Nobody | Past | Barred(_) => false,
         }
     }
 
@@ -72,7 +81,16 @@ impl Holder {
     {
         match self {
             Call(call) => call.arrives,
-            Nobody | Barred => false,
+            Nobody | Past | Barred(_) => false,
+        }
+    }
+
+    fn returns(self) -> bool
+        ensures value { result ≡ returns self }
+    {
+        match self {
+            Call(call) => call.returns,
+            Nobody | Past | Barred(_) => false,
         }
     }
 
@@ -81,7 +99,7 @@ impl Holder {
     {
         match self {
             Call(call) => call.reports,
-            Nobody | Barred => false,
+            Nobody | Past | Barred(_) => false,
         }
     }
 }
@@ -123,11 +141,11 @@ fn release_ack(lchan: Lchan, holder: Holder) -> Step
 
 /// The station that a channel awaited has released it, or is gone: that ends its bar.
 fn closed(holder: Holder) -> Step
-    ensures barred { result.acts ≡ (if barred holder then two (act.Stop timer.Bar) act.EndBar else nothing) }
+    ensures barred { result.acts ≡ (if barred holder then one act.EndBar else nothing) }
     ensures rest { result.next ≡ state.Rest }
 {
     if holder.is_barred() {
-        return Step::two(Stop(Timer::Bar), EndBar, Rest);
+        return Step::one(EndBar, Rest);
     }
     Step::none(Rest)
 }
@@ -174,6 +192,19 @@ fn handover_complete(lchan: Lchan, holder: Holder) -> Step
         On | Lost => arrival(lchan, holder),
         Rest => stray(holder),
         Activating | Mobile | Guard | Releasing | Closing | Reopening => Step::one(Count, lchan),
+    }
+}
+
+/// The mobile came back. It is a stranger where none was told to leave.
+fn handover_failure(lchan: Lchan, holder: Holder) -> Step
+    ensures table { result ≡ heard_step lchan message.HandoverFailure holder }
+{
+    match lchan {
+        On | Lost if holder.returns() => Step::one(Give, lchan),
+        Rest => stray(holder),
+        On | Activating | Mobile | Guard | Releasing | Closing | Reopening | Lost => Step::one(
+            Count, lchan,
+        ),
     }
 }
 
@@ -241,7 +272,7 @@ fn expired(lchan: Lchan, timer: Timer, holder: Holder) -> Step
         (Timer::T3109, Mobile) => Step::two(SendRelease, Start(Timer::Release), Releasing),
         (Timer::T3111, Guard) => Step::two(SendRelease, Start(Timer::Release), Releasing),
         (Timer::Release, Releasing) => Step::two(ReleaseInPlace, Bar, Closing),
-        (Timer::Bar, Rest) if holder.is_barred() => Step::one(EndBar, Rest),
+        (Timer::Bar, Rest) if holder.is_timed() => Step::one(EndBar, Rest),
 
         (Timer::Activation, Rest | On | Mobile | Guard) => Step::one(Count, lchan),
         (Timer::Activation, Releasing | Closing | Lost) => Step::one(Count, lchan),
@@ -276,7 +307,7 @@ fn bar_asked(lchan: Lchan, holder: Holder) -> Step
     ensures table { result ≡ heard_step lchan message.BarAsked holder }
 {
     match lchan {
-        Rest if holder.is_nobody() => Step::one(OpenBar, Rest),
+        Rest if holder.is_nobody() => Step::one(OpenBar(BarKind::Lasting), Rest),
         Rest | Activating | On | Mobile | Guard => Step::one(Count, lchan),
         Releasing | Closing | Reopening | Lost => Step::one(Count, lchan),
     }
@@ -286,7 +317,7 @@ fn unbar_asked(lchan: Lchan, holder: Holder) -> Step
     ensures table { result ≡ heard_step lchan message.UnbarAsked holder }
 {
     match lchan {
-        Rest | Closing if holder.is_barred() => Step::two(Stop(Timer::Bar), EndBar, lchan),
+        Rest | Closing if holder.is_barred() => Step::one(EndBar, lchan),
         Rest | Activating | On | Mobile | Guard => Step::one(Count, lchan),
         Releasing | Closing | Reopening | Lost => Step::one(Count, lchan),
     }

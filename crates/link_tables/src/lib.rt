@@ -11,7 +11,7 @@ mod hearing;
 pub mod laws;
 mod settling;
 
-pub use bars::bar;
+pub use bars::{bar, clock_change, has_clock};
 pub use channel_fsm::ChanState;
 pub use failures::end_attempt;
 pub use hearing::hear;
@@ -81,6 +81,8 @@ pub enum Heard {
     HandoverDetection,
     /// A DATA INDICATION with HANDOVER COMPLETE (TS 44.018 clause 9.1.16).
     HandoverComplete,
+    /// A DATA INDICATION with HANDOVER FAILURE (TS 44.018 clause 9.1.17): the mobile came back.
+    HandoverFailure,
     MeasurementResult,
     /// Any other DATA INDICATION.
     DataIndication,
@@ -99,13 +101,24 @@ pub enum Heard {
     UnbarAsked,
 }
 
+/// What ends a bar: a call number that only keeps calls away from a channel.
+#[derive(Clone, Copy, Debug, PartialEq, Eq)]
+pub enum BarKind {
+    /// A clock ends it, where its channel is at rest.
+    Timed,
+    /// No clock ends it.
+    Lasting,
+}
+
 /// Who has a channel.
 #[derive(Clone, Copy, Debug, PartialEq, Eq)]
 pub enum Holder {
-    /// No call has it.
+    /// No call has it: it is free.
     Nobody,
-    /// A bar has it: a call number that only keeps calls away from it.
-    Barred,
+    /// No call has it any more, and the book waits for its release.
+    Past,
+    /// A bar has it.
+    Barred(BarKind),
     /// A call has it.
     Call(Use),
 }
@@ -117,6 +130,8 @@ pub struct Use {
     pub leaves: bool,
     /// The call is to arrive on it, and its mobile was told to leave its channel.
     pub arrives: bool,
+    /// The call is served on it, and its mobile was told to leave it.
+    pub returns: bool,
     /// The call's measurement reports are used.
     pub reports: bool,
 }
@@ -179,7 +194,7 @@ pub enum Act {
     /// The call that holds the channel becomes its bar.
     BarByHolder,
     /// A call with an unused number is opened on the channel, as its bar.
-    OpenBar,
+    OpenBar(BarKind),
     /// The call that is the bar is cleared.
     EndBar,
 }

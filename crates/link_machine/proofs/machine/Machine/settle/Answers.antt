@@ -1,12 +1,17 @@
-use Rattle.std.proofs.Common.{◌≡◌, ◌++◌, List, OnOk, subst, sym}
+use Rattle.std.proofs.Common.{◌≡◌, ◌++◌, List, ℕ, OnOk, OnErr, subst, sym}
 use Rattle.link_machine.specs.declared.calls.CallFacts.{CallFacts}
 use Rattle.link_machine.specs.declared.pass.Pass.TheVariants.{Turn}
 use Rattle.link_machine.specs.Laws.{AllAgree}
-use Rattle.link_machine.specs.Machine.{all_moved, all_done}
+use Rattle.link_machine.specs.Machine.{all_moved, all_done, moved_until, done_until}
 use Rattle.link_machine.specs.Passes.{passed}
 use Rattle.link_machine.proofs.Agreeing.{each_settled}
 use Rattle.link_machine.proofs.Walks.{on_ok}
 use Rattle.link_machine.proofs.machine.Machine.settle.Goals as goal
+
+pub returns-clause-channels : goal.returns-clause-channels
+returns-clause-channels g c =
+    subst (λ (calls : List CallFacts). OnOk c.go_through.result (c.go_through.new.channels.items ≡ all_moved (passed c.args.book.now calls (Turn c.args.turn)) c.args.self.now.channels.items))
+    c.deref.ensures.value c.go_through.ensures.channels
 
 pub returns-clause-done : goal.returns-clause-done
 returns-clause-done g c =
@@ -19,3 +24,10 @@ returns-clause-agree g c =
     (AllAgree c.args.book.now c.go_through.new.channels.items) c.go_through.result
     (λ same. subst (AllAgree c.args.book.now) (sym same) (each_settled c.args.book.now c.deref.result.now c.args.turn c.args.self.now.channels.items))
     c.go_through.ensures.channels
+
+pub returns-clause-told : goal.returns-clause-told
+returns-clause-told g c =
+    subst (λ (calls : List CallFacts). OnErr c.go_through.result ((n : ℕ) ×
+    (c.go_through.new.channels.items ≡ moved_until (passed c.args.book.now calls (Turn c.args.turn)) n c.args.self.now.channels.items) ×
+    (c.go_through.new.out.items ≡ c.args.out.now.items ++ done_until (passed c.args.book.now calls (Turn c.args.turn)) n c.args.self.now.channels.items)))
+    c.deref.ensures.value c.go_through.ensures.told

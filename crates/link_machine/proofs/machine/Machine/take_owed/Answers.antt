@@ -1,4 +1,4 @@
-use Rattle.std.proofs.Common.{◌≡◌, ◌∙◌, ap, rules, slice_get, Some}
+use Rattle.std.proofs.Common.{◌≡◌, ◌∙◌, ap, rules, set, slice_get, Some}
 use Rattle.std.specs.List.{position}
 use Rattle.link_machine.specs.Channels.{owes}
 use Rattle.link_machine.specs.Machine.{first_owed}
@@ -28,7 +28,7 @@ returns-clause-channels g c =
     let read = c.in_ok-channel.ensures.lookup in
     let at : Some n ≡ position owes cs = c.in_ok-place.ensures ∙ ap (position owes) c.deref.ensures.value in
     let there : slice_get cs n ≡ Some channel = read_there cs c.deref-2.result.now n channel c.deref-2.ensures.value read.3.0 read.1 in
-    paid_first cs n channel at there
+    ap (set cs n) c.paid.ensures ∙ paid_first c.args.number cs n channel at there
 
 pub returns-clause-none : goal.returns-clause-none
 returns-clause-none g c = none_owed c.args.self.now.channels.items c.owed_of.result (returns-clause-owed g c)
