@@ -52,10 +52,7 @@ const WRONG: &[(&str, &str)] = &[
     ("up 0", "TRX is missing"),
     ("up 256 0", "CELL is 0 to 255, found \"256\""),
     ("up  0 0", "CELL is 0 to 255, found \"\""),
-    (
-        "up 0 0 0",
-        "nothing may follow the last word, found \"0\"",
-    ),
+    ("up 0 0 0", "nothing may follow the last word, found \"0\""),
     ("up centre ", "CELL is 0 to 255, found \"centre\""),
     (
         "begin now",
