@@ -71,6 +71,13 @@ impl<'v> Reading<'v> {
         Some(())
     }
 
+    /// What a name stands for that stands for a whole reply.
+    fn take_all(&mut self) -> &'v str {
+        let value = text_of(self.rest);
+        self.rest = &[];
+        value
+    }
+
     /// What a name stands for, behind which a text stands: a word, or beside a slash a part of one.
     fn take(&mut self, behind: &str) -> &'v str {
         let is_part = self.before == b'/' || behind.starts_with("/");
@@ -79,6 +86,14 @@ impl<'v> Reading<'v> {
         self.rest = rest;
         self.before = b'*';
         text_of(value)
+    }
+}
+
+/// Whether a name is what a text ends with behind `->`: it stands for any reply there.
+fn is_reply(text: &str, name: &str) -> bool {
+    match text.strip_suffix(name) {
+        Some(front) => front.ends_with("-> $"),
+        None => false,
     }
 }
 
@@ -95,7 +110,11 @@ fn add_values<'n, 'v, A: Allocator>(
     for (place, piece) in text.split('$').enumerate() {
         let literal = match cut_name(piece) {
             Some((name, behind)) if 0 < place => {
-                let value = reading.take(behind);
+                let value = if behind.is_empty() && is_reply(text, name) {
+                    reading.take_all()
+                } else {
+                    reading.take(behind)
+                };
                 values.push(Value { name, value })?;
                 behind
             }

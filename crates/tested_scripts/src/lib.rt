@@ -6,8 +6,10 @@ mod came;
 mod compare;
 mod gathered;
 mod heard;
+mod kept_names;
 mod lines;
 mod misses;
+mod misspelt;
 mod named;
 mod nearest;
 mod never;
@@ -21,10 +23,11 @@ mod values;
 
 pub use compare::{CameLine, Difference, find_difference, find_last_difference};
 pub use lines::{expected_in, is_any, is_script_line, lines_of, part_end};
-pub use named::{Named, Unnamed, named_script};
+pub use misspelt::{FlawedName, NameFlaw, flawed_names};
+pub use named::{Named, Unread, WhyUnread, named_script};
 pub use nearest::Nearest;
 pub use never::{Never, NeverLine, Told, never_lines};
 pub use printed::{
-    Miss, TestName, ending_of, print_met, print_miss, print_not_met, print_plan, print_recorded,
+    Miss, TestName, ending_of, print_met, print_miss, print_not_met, print_plan,
 };
 pub use reasons::Reasons;

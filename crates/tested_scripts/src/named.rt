@@ -7,6 +7,7 @@ use crate::compare::{CameLine, first_behind};
 use crate::heard::{Came, PartListener, run_heard};
 use crate::lines::{expected_in, is_script_line, lines_of, part_end};
 use crate::misses::expect_held;
+use crate::misspelt::nearest_before;
 use crate::values::{Names, has_this_name};
 use expectations::{
     Answered, answer_to, has_name, held_in, is_answered, refused_in, values_of, with_stars,
@@ -16,15 +17,28 @@ use lab_script::script::{ScriptFault, read_script};
 use run_listeners::LabFault;
 use std::alloc::{AllocError, Allocator, Global};
 
-/// A line of a script that can't be read, as it has a name that stands for nothing.
+/// Why a line of a script can't be read.
 #[derive(Drop)]
-pub struct Unnamed<A: Allocator = Global> {
+pub enum WhyUnread<A: Allocator = Global> {
+    /// It has a name that stands for nothing.
+    Unnamed {
+        /// The first of its names that stand for nothing.
+        name: String<A>,
+        /// The number of the last comment before it that expects something with that, where there is one.
+        expected: Option<usize>,
+        /// The name that is nearest to it, of those that comments before the line expect something with.
+        nearest: Option<String<A>>,
+    },
+    /// This text, with values in the place of its names, can't be read.
+    Filled(String<A>),
+}
+
+/// A line of a script that can't be read, behind which the script isn't played.
+#[derive(Drop)]
+pub struct Unread<A: Allocator = Global> {
     /// Its number, counted from 1.
     pub line: usize,
-    /// The first of its names that stand for nothing.
-    pub name: String<A>,
-    /// The number of the last comment before it that expects something with that, where there is one.
-    pub expected: Option<usize>,
+    pub why: WhyUnread<A>,
     /// The lines before it.
     pub front: String<A>,
 }
@@ -34,8 +48,8 @@ pub struct Unnamed<A: Allocator = Global> {
 pub struct Named<A: Allocator = Global> {
     /// Its lines.
     pub text: String<A>,
-    /// The first of them that can't be read because of a name, where there is one; those behind it are as they were.
-    pub unnamed: Option<Unnamed<A>>,
+    /// The first of them that can't be read, where there is one: because of a name, or behind a line with names.
+    pub unread: Option<Unread<A>>,
 }
 
 /// A listener that finds what names stand for, and writes the lines of a script without them.
@@ -220,18 +234,28 @@ fn as_lines<A: Allocator + Copy>(
     Ok(lines)
 }
 
-/// Runs the lines of a script that have no names where they give something, and writes them without names; nothing where one of them
-/// can't be read.
+/// What came of the first lines of a script.
+#[derive(Drop)]
+enum Front<A: Allocator + Copy> {
+    /// They were run, and stand here without names.
+    Written(Vec<String<A>, A>),
+    /// The line of this number can't be read.
+    Unread(usize),
+    /// A text describes no site.
+    NoSite,
+}
+
+/// Runs the lines of a script that have no names where they give something, and writes them without names.
 fn written_front<A: Allocator + Copy>(
     alloc: A,
     sites: Sites<A>,
     front: &[&str],
     names: &mut Names<A>,
-) -> Result<Option<Vec<String<A>, A>>, LabFault> {
+) -> Result<Front<A>, LabFault> {
     let text = joined(alloc, front)?;
     let items = match read_script(alloc, &text, sites.peer.is_some()) {
         Ok(items) => items,
-        Err(ScriptFault::Line(_)) => return Ok(None),
+        Err(ScriptFault::Line(line)) => return Ok(Front::Unread(line)),
         Err(ScriptFault::NoMemory) => return Err(LabFault::NoMemory),
     };
     let mut binder = Binder {
@@ -242,7 +266,7 @@ fn written_front<A: Allocator + Copy>(
         written: Vec::new(alloc),
     };
     let _ = run_heard(alloc, sites, items, &mut binder)?;
-    Ok(Some(binder.written))
+    Ok(Front::Written(binder.written))
 }
 
 /// The number of the last of some lines that says something of what comes with a name, counted from 1.
@@ -294,28 +318,27 @@ impl<A: Allocator + Copy> Search<'_, '_, A> {
         Ok(())
     }
 
-    /// Runs the lines before a place, and writes them without names. Answers whether they can be run.
-    fn run_front(&mut self, end: usize) -> Result<bool, LabFault> {
+    /// Runs the lines before a place, and writes them without names.
+    fn run_front(&mut self, end: usize) -> Result<Front<A>, LabFault> {
         let Ok(sites) = read_sites(self.alloc, self.scratch, self.site, self.peer) else {
-            return Ok(false);
+            return Ok(Front::NoSite);
         };
         let mut front = as_lines(self.alloc, &self.lines)?;
         front.truncate(end);
-        let Some(mut written) = written_front(self.alloc, sites, &front, &mut self.names)? else {
-            return Ok(false);
-        };
-        drop(front);
-        self.add_behind(&mut written)?;
-        self.lines = written;
-        Ok(true)
+        written_front(self.alloc, sites, &front, &mut self.names)
     }
 
     /// Finds out what names stand for, as far as lines can be run; nothing where one before the first with a name can't be read.
     fn find(&mut self) -> Result<Option<Named<A>>, LabFault> {
-        for _ in self.script {
+        for round in 0..self.script.len() {
             let end = self.front();
-            if !self.run_front(end)? {
-                return Ok(None);
+            match self.run_front(end)? {
+                Front::Written(mut written) => {
+                    self.add_behind(&mut written)?;
+                    self.lines = written;
+                }
+                Front::Unread(line) if 0 < round => return Ok(Some(self.filled(line)?)),
+                Front::Unread(_) | Front::NoSite => return Ok(None),
             }
             if self.front() == end {
                 return Ok(Some(self.named(end)?));
@@ -324,35 +347,76 @@ impl<A: Allocator + Copy> Search<'_, '_, A> {
         Ok(None)
     }
 
-    /// The line at a place, where there is one: it has names that stand for nothing.
-    fn unnamed(&self, place: usize) -> Result<Option<Unnamed<A>>, AllocError> {
+    /// The lines before a place.
+    fn lines_before(&self, place: usize) -> Result<String<A>, AllocError> {
         let mut front = as_lines(self.alloc, &self.lines)?;
-        let Some(line) = front.get(place).copied() else {
-            return Ok(None);
-        };
         front.truncate(place);
+        joined(self.alloc, &front)
+    }
+
+    /// Why the line at a place can't be read: it has this name, which stands for nothing.
+    fn why_unnamed(&self, place: usize, name: &str) -> Result<WhyUnread<A>, AllocError> {
         let before = self.script.get(..place).unwrap_or(&[]);
-        let name = self.names.first_unknown(line).unwrap_or("");
-        Ok(Some(Unnamed {
-            line: place.saturating_add(1),
+        let nearest = match nearest_before(before, name) {
+            Some(nearest) => Some(String::from_str(self.alloc, nearest)?),
+            None => None,
+        };
+        Ok(WhyUnread::Unnamed {
             name: String::from_str(self.alloc, name)?,
             expected: expected_before(before, name),
-            front: joined(self.alloc, &front)?,
+            nearest,
+        })
+    }
+
+    /// The line at a place, where there is one: it has names that stand for nothing.
+    fn unnamed(&self, place: usize) -> Result<Option<Unread<A>>, AllocError> {
+        let Some(line) = self.lines.get(place) else {
+            return Ok(None);
+        };
+        let name = self.names.first_unknown(line.as_str()).unwrap_or("");
+        Ok(Some(Unread {
+            line: place.saturating_add(1),
+            why: self.why_unnamed(place, name)?,
+            front: self.lines_before(place)?,
         }))
+    }
+
+    /// The lines, with a line feed between any two.
+    fn text(&self) -> Result<String<A>, AllocError> {
+        joined(self.alloc, &as_lines(self.alloc, &self.lines)?)
     }
 
     /// The script, whose line at a place has names that stand for nothing, where there is one.
     fn named(&self, place: usize) -> Result<Named<A>, AllocError> {
         Ok(Named {
-            text: joined(self.alloc, &as_lines(self.alloc, &self.lines)?)?,
-            unnamed: self.unnamed(place)?,
+            text: self.text()?,
+            unread: self.unnamed(place)?,
+        })
+    }
+
+    /// The script, whose line of this number can't be read, though all its names stand for something.
+    fn filled(&self, number: usize) -> Result<Named<A>, AllocError> {
+        let place = number.saturating_sub(1);
+        let line = match self.lines.get(place) {
+            Some(line) => line.as_str(),
+            None => "",
+        };
+        let unread = Unread {
+            line: number,
+            why: WhyUnread::Filled(String::from_str(self.alloc, line)?),
+            front: self.lines_before(place)?,
+        };
+        Ok(Named {
+            text: self.text()?,
+            unread: Some(unread),
         })
     }
 }
 
 /// A script over a site, or over two where a peer's is given, with what its names stand for in their place. A name stands for the word
 /// that came in its place where it is expected first; the script is run for that, as often as a line that gives something needs names
-/// that the lines before it find out. Nothing where it has none, where a text describes no site, and where a line can't be read.
+/// that the lines before it find out. Nothing where it has none, where a text describes no site, and where a line before the first with
+/// names can't be read.
 pub fn named_script<A: Allocator + Copy>(
     alloc: A,
     scratch: Global,

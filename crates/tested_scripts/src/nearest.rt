@@ -3,7 +3,7 @@
 //! No clause says which is nearest: only lines for a person depend on it.
 use crate::compare::CameLine;
 use crate::never_messages::is_in_octets;
-use expectations::without_mark;
+use expectations::{is_met_by, without_mark};
 
 /// The line that came and is nearest to an expected line.
 #[derive(Clone, Copy, Debug, PartialEq, Eq)]
@@ -19,7 +19,7 @@ pub struct Nearest<'c, 'e> {
 /// How near a line is to one that is expected: both are inputs, messages that are sent, or events; also on one link, or the same
 /// event; also messages of one name.
 #[derive(Clone, Copy, PartialEq, Eq, PartialOrd, Ord)]
-enum Kinship {
+pub(crate) enum Kinship {
     None,
     Kind,
     Link,
@@ -73,13 +73,27 @@ fn are_of_one_name(line: &str, other: &str) -> bool {
             .all(|(word, another)| word == another)
 }
 
+/// Whether a word is one for which another stands.
+fn is_word(word: &str, expected: &str) -> bool {
+    is_met_by(word, "", expected)
+}
+
+/// Whether a word is one for which another stands, or neither is there.
+fn is_same_word(word: Option<&str>, expected: Option<&str>) -> bool {
+    match (word, expected) {
+        (Some(word), Some(expected)) => is_word(word, expected),
+        (None, None) => true,
+        (Some(_), None) | (None, Some(_)) => false,
+    }
+}
+
 /// How near a line is to one that is expected, both without their marks.
-fn kinship_of(line: &str, expected: &str) -> Kinship {
+pub(crate) fn kinship_of(line: &str, expected: &str) -> Kinship {
     let mut words = line.split(' ');
     let mut others = expected.split(' ');
-    if words.next() != others.next() {
+    if !is_same_word(words.next(), others.next()) {
         Kinship::None
-    } else if words.next() != others.next() {
+    } else if !is_same_word(words.next(), others.next()) {
         Kinship::Kind
     } else if !are_of_one_name(line, expected) {
         Kinship::Link
@@ -93,9 +107,9 @@ fn bare(word: &str) -> &str {
     word.strip_suffix(";").unwrap_or(word)
 }
 
-/// Whether a line has a word.
+/// Whether a line has a word for which another stands.
 fn has_word(line: &str, word: &str) -> bool {
-    line.split(' ').any(|other| bare(other) == bare(word))
+    line.split(' ').any(|other| is_word(bare(other), bare(word)))
 }
 
 /// How many words of a line that is expected another has.
@@ -120,7 +134,7 @@ fn in_place_of<'a>(line: &'a str, word: &str, place: usize) -> Option<&'a str> {
 /// A line as the nearest to one that is expected.
 fn nearest_line<'c, 'e>(came: &'c str, expected: &'e str) -> Nearest<'c, 'e> {
     for (place, word) in expected.split(' ').enumerate() {
-        if word != "*" && !has_word(came, word) {
+        if !has_word(came, word) {
             return Nearest {
                 came,
                 expected: bare(word),

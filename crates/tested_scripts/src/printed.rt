@@ -53,6 +53,16 @@ pub enum Miss<'a> {
     Idle(usize),
     /// A line of the script, counted from 1, can't be read.
     Unreadable(usize),
+    /// A line of the script, counted from 1, can't be read with values in the place of its names: it is this text then.
+    Filled { line: usize, text: &'a str },
+    /// A line of the script, counted from 1, has a name that no comment before it expects something with, or that stands nowhere else
+    /// and is nearly another. This name is the nearest.
+    Name {
+        line: usize,
+        name: &'a str,
+        is_lone: bool,
+        nearest: Option<&'a str>,
+    },
     /// The file can't be read.
     NoFile,
     /// The site that the script names can't be read, or its peer's.
@@ -69,6 +79,8 @@ impl Miss<'_> {
             Miss::Slipped(line) => line,
             Miss::Idle(line) => line,
             Miss::Unreadable(line) => line,
+            Miss::Filled { line, .. } => line,
+            Miss::Name { line, .. } => line,
             Miss::Nothing | Miss::NoFile | Miss::NoSite => 0,
         }
     }
@@ -142,6 +154,25 @@ pub(crate) fn print_missing<W: Write>(
     }
 }
 
+/// Prints that a line of the script has a name that is misspelt, or seems to be, and which name is the nearest.
+fn print_name<W: Write>(
+    out: &mut W,
+    line: usize,
+    name: &str,
+    is_lone: bool,
+    nearest: Option<&str>,
+) -> io::Result<()> {
+    if is_lone {
+        write!(out, "# line {line}: ${name} stands nowhere else")?;
+    } else {
+        write!(out, "# line {line}: ${name} stands for nothing")?;
+    }
+    match nearest {
+        Some(nearest) => writeln!(out, "; the nearest name is ${nearest}"),
+        None => writeln!(out),
+    }
+}
+
 /// Prints why a test isn't met.
 pub(crate) fn print_reason<W: Write>(out: &mut W, miss: Miss<'_>) -> io::Result<()> {
     match miss {
@@ -178,6 +209,15 @@ pub(crate) fn print_reason<W: Write>(out: &mut W, miss: Miss<'_>) -> io::Result<
         }
         Miss::Idle(line) => writeln!(out, "# line {line} has no effect"),
         Miss::Unreadable(line) => writeln!(out, "# line {line} can't be read"),
+        Miss::Filled { line, text } => {
+            writeln!(out, "# line {line} can't be read: {}", Escaped(text))
+        }
+        Miss::Name {
+            line,
+            name,
+            is_lone,
+            nearest,
+        } => print_name(out, line, name, is_lone, nearest),
         Miss::NoFile => writeln!(out, "# the file can't be read"),
         Miss::NoSite => writeln!(out, "# the site can't be read"),
     }
@@ -204,20 +244,11 @@ pub fn ending_of(line: &str) -> &'static str {
     if line.ends_with('\r') { "\r\n" } else { "\n" }
 }
 
-/// Prints lines that came as comments that expect them, in words or as in the trace.
-pub fn print_recorded<W: Write>(
-    out: &mut W,
-    came: &[CameLine<'_>],
-    in_words: bool,
-    ending: &str,
-) -> io::Result<()> {
-    for line in came {
-        let text = if in_words && !line.words.is_empty() {
-            line.words
-        } else {
-            line.text
-        };
-        write!(out, "#> {text}{ending}")?;
+/// A line that came as it is recorded: in words, or as in the trace.
+pub(crate) fn recorded_text<'a>(line: CameLine<'a>, in_words: bool) -> &'a str {
+    if in_words && !line.words.is_empty() {
+        line.words
+    } else {
+        line.text
     }
-    Ok(())
 }

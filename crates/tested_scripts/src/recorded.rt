@@ -8,9 +8,14 @@ ghost use Rattle.lab_runs.specs.Sites.{texts_of, views_of};
 use crate::came::{came_lines, printed_lines};
 use crate::compare::CameLine;
 use crate::heard::{Came, PartListener, run_heard};
-use crate::lines::{expected_in, is_input, is_script_line};
-use crate::printed::{ending_of, print_recorded};
-use expectations::{Recording, held_in, print_expected};
+use crate::kept_names::{
+    Comment, asked_in, met_comments, named_comments, text_held, text_like,
+};
+use crate::lines::{expected_in, is_input, is_script_line, lines_of};
+use crate::printed::{ending_of, recorded_text};
+use expectations::{
+    Answered, Recording, answer_to, has_name, held_in, is_answered, print_expected,
+};
 use lab_runs::run::{Sites, Status, read_sites, refuse_site, script_items};
 use lab_script::script::without_return;
 use run_listeners::{LabFault, Printing};
@@ -24,12 +29,22 @@ struct Recorder<'a, W: Write, A: Allocator + Copy> {
     out: &'a mut W,
     /// What stands before, between and behind the line feeds, each with the carriage return that may end it.
     lines: &'a [&'a str],
+    /// The lines that are played: those with values in the place of names. There may be fewer.
+    known: &'a [&'a str],
     place: usize,
     /// Whether what comes is recorded behind the lines that are printed now.
     is_taken: bool,
     /// What ends the line that gave something last.
     ending: &'static str,
     recording: Recording,
+}
+
+/// A script that is recorded: as it is played, and as it stands, with the names of which it has values there. What stands behind the
+/// lines that are played stays as it is.
+#[derive(Clone, Copy, Debug, PartialEq, Eq)]
+pub struct RecordedScript<'a> {
+    pub played: &'a str,
+    pub written: &'a str,
 }
 
 /// What stands in a script before, between and behind its line feeds.
@@ -77,16 +92,48 @@ impl<W: Write, A: Allocator + Copy> Recorder<'_, W, A> {
         }
     }
 
-    /// Whether a line of the script is a comment that a recorded one takes the place of.
+    /// Whether a line of the script is a comment that a recorded one takes the place of. What names get their values from stays.
     fn is_replaced(&self, line: &str) -> bool {
         self.is_taken
-            && (expected_in(line).is_some() || (self.recording.states && held_in(line).is_some()))
+            && (expected_in(line).is_some()
+                || (self.recording.states && held_in(line).is_some() && !has_name(line)))
+    }
+
+    /// The line that is played at a place.
+    fn known_at(&self, place: usize) -> &str {
+        self.known.get(place).copied().unwrap_or("")
+    }
+
+    /// The text of a comment before the place that expects something of the books, where they hold something else, and that is
+    /// recorded.
+    fn held_text(&self, line: &str, held: &[&str]) -> Result<Option<String<A>>, LabFault> {
+        if !self.is_taken || self.recording.only.is_none() {
+            return Ok(None);
+        }
+        let known = held_in(self.known_at(self.place.saturating_sub(1)));
+        let (Some(text), Some(known)) = (held_in(line), known) else {
+            return Ok(None);
+        };
+        let comment = Comment { text, known };
+        let asked = asked_in(self.alloc, comment)?;
+        match answer_to(self.alloc, &asked, held)? {
+            Answered::Held(answer) if !is_answered(&answer, &asked) => {
+                Ok(text_held(self.alloc, &answer, comment)?)
+            }
+            Answered::Held(_) | Answered::Unasked(_) => Ok(None),
+        }
     }
 
     /// Prints a line that gives nothing, the one before the place, unless it expects something. The script's last line has
     /// no line feed behind it.
-    fn print_passed(&mut self, line: &str) -> io::Result<()> {
-        if self.is_replaced(without_return(line)) {
+    fn print_passed(&mut self, line: &str, held: &[&str]) -> Result<(), LabFault> {
+        let text = without_return(line);
+        if self.is_replaced(text) {
+            return Ok(());
+        }
+        if let Some(recorded) = self.held_text(text, held)? {
+            let ending = ending_of(line);
+            write!(self.out, "#= {recorded}{ending}")?;
             return Ok(());
         }
         write!(self.out, "{line}")?;
@@ -109,30 +156,80 @@ impl<W: Write, A: Allocator + Copy> Recorder<'_, W, A> {
 
     /// Prints the lines from the place on, up to and with the next that gives something, without those that expect
     /// something.
-    fn print_part(&mut self) -> io::Result<()> {
+    fn print_part(&mut self, held: &[&str]) -> Result<(), LabFault> {
         for line in self.lines.get(self.place..).unwrap_or(&[]) {
             self.place = self.place.saturating_add(1);
             if is_script_line(without_return(*line)) {
-                return self.print_giving(*line);
+                return Ok(self.print_giving(*line)?);
             }
-            self.print_passed(*line)?;
+            self.print_passed(*line, held)?;
         }
         Ok(())
     }
 
+    /// Prints the lines that aren't played, which stand from the place on.
+    fn print_rest(&mut self) -> io::Result<()> {
+        for line in self.lines.get(self.place..).unwrap_or(&[]) {
+            self.place = self.place.saturating_add(1);
+            write!(self.out, "{line}")?;
+            if self.place < self.lines.len() {
+                writeln!(self.out)?;
+            }
+        }
+        Ok(())
+    }
+
+    /// The comments from the place on that expect lines with names, up to the next line that gives something.
+    fn named_here(&self) -> Result<Vec<Comment<'_, '_>, A>, AllocError> {
+        let next = self.next_place();
+        let lines = self.lines.get(self.place..next).unwrap_or(&[]);
+        let known = self.known.get(self.place..).unwrap_or(&[]);
+        let mut texts = Vec::new(self.alloc);
+        for line in lines {
+            texts.push(without_return(*line))?;
+        }
+        named_comments(self.alloc, &texts, known)
+    }
+
+    /// What is recorded of the lines that came, as a text each.
+    fn recorded_texts(&self, came: &[CameLine<'_>]) -> Result<Vec<String<A>, A>, AllocError> {
+        let mut comments = self.named_here()?;
+        let met = met_comments(self.alloc, came, &mut comments)?;
+        let mut texts = Vec::new(self.alloc);
+        for (line, met) in came.iter().zip(&met) {
+            let text = match met {
+                Some(comment) => String::from_str(self.alloc, comment.text)?,
+                None => match text_like(self.alloc, *line, &mut comments)? {
+                    Some(text) => text,
+                    None => {
+                        String::from_str(self.alloc, recorded_text(*line, self.recording.words))?
+                    }
+                },
+            };
+            texts.push(text)?;
+        }
+        Ok(texts)
+    }
+
     /// Prints what came as comments.
-    fn print_lines(&mut self, came: &[CameLine<'_>]) -> io::Result<()> {
-        let in_words = self.recording.words;
-        let came = if in_words { without_echo(came) } else { came };
-        print_recorded(self.out, came, in_words, self.ending)
+    fn print_lines(&mut self, came: &[CameLine<'_>]) -> Result<(), LabFault> {
+        let came = if self.recording.words {
+            without_echo(came)
+        } else {
+            came
+        };
+        let texts = self.recorded_texts(came)?;
+        for text in &texts {
+            write!(self.out, "#> {text}{}", self.ending)?;
+        }
+        Ok(())
     }
 
     /// Prints what the books hold as comments.
-    fn print_held(&mut self, held: &str) -> Result<(), LabFault> {
+    fn print_held(&mut self, held: &[&str]) -> Result<(), LabFault> {
         // before the first line of the script nothing is held
         if self.recording.states && 0 < self.place {
-            let held = printed_lines(self.alloc, held)?;
-            print_expected(self.out, &held, self.ending)?;
+            print_expected(self.out, held, self.ending)?;
         }
         Ok(())
     }
@@ -140,12 +237,18 @@ impl<W: Write, A: Allocator + Copy> Recorder<'_, W, A> {
     /// Prints what came as comments, where that is recorded, and the lines up to and with the next that gives something.
     fn print_came(&mut self, came: Came<'_>) -> Result<(), LabFault> {
         self.is_taken = self.takes_place();
+        let held = printed_lines(self.alloc, came.held)?;
         if self.is_taken {
             let lines = came_lines(self.alloc, came.trace, came.words)?;
             self.print_lines(&lines)?;
-            self.print_held(came.held)?;
+            self.print_held(&held)?;
         }
-        Ok(self.print_part()?)
+        self.print_part(&held)
+    }
+
+    /// Whether lines of the script aren't played.
+    fn is_cut(&self) -> bool {
+        self.known.len() < self.lines.len()
     }
 }
 
@@ -156,7 +259,7 @@ impl<W: Write, A: Allocator + Copy> PartListener for Recorder<'_, W, A> {
     ghost HearsEnd = { λ _ _ _ well. well ≡ true };
 
     fn wants_held(&self) -> bool {
-        self.recording.states
+        self.recording.states || self.recording.only.is_some()
     }
 
     fn hear(&mut self, came: Came<'_>) -> Result<(), LabFault> {
@@ -164,8 +267,13 @@ impl<W: Write, A: Allocator + Copy> PartListener for Recorder<'_, W, A> {
         Ok(())
     }
 
-    fn hear_last(&mut self, _came: Came<'_>, ended: Came<'_>) -> Result<bool, LabFault> {
-        self.print_came(ended)?;
+    fn hear_last(&mut self, came: Came<'_>, ended: Came<'_>) -> Result<bool, LabFault> {
+        if self.is_cut() {
+            self.print_came(came)?;
+            self.print_rest()?;
+        } else {
+            self.print_came(ended)?;
+        }
         Ok(true)
     }
 }
@@ -174,25 +282,28 @@ impl<W: Write, A: Allocator + Copy> PartListener for Recorder<'_, W, A> {
 fn record_script<A: Allocator + Copy, W: Write>(
     alloc: A,
     sites: Sites<A>,
-    script: &str,
+    script: RecordedScript<'_>,
     recording: Recording,
     out: &mut W,
 ) -> Result<Status, LabFault>
-    ensures done { result ≡ Ok Status.Done → first_unreadable (is_some sites.peer) script.now ≡ None }
-    ensures played { result ≡ Ok Status.Done → Played A (views_of sites) (items_of script.now) }
+    ensures done { result ≡ Ok Status.Done → first_unreadable (is_some sites.peer) script.played.now ≡ None }
+    ensures played { result ≡ Ok Status.Done → Played A (views_of sites) (items_of script.played.now) }
     ensures differs { result ≢ Ok Status.Differs }
     ensures refused { result ≡ Ok Status.Refused →
-        IsSome (first_unreadable (is_some sites.peer) script.now) }
+        IsSome (first_unreadable (is_some sites.peer) script.played.now) }
 {
-    let Some(items) = script_items(alloc, script, sites.peer.is_some(), &mut Printing::new(out))?
+    let RecordedScript { played, written } = script;
+    let Some(items) = script_items(alloc, played, sites.peer.is_some(), &mut Printing::new(out))?
     else {
         return Ok(Status::Refused);
     };
-    let lines = whole_lines(alloc, script)?;
+    let lines = whole_lines(alloc, written)?;
+    let known = lines_of(alloc, played)?;
     let mut recorder = Recorder {
         alloc,
         out,
         lines: &lines,
+        known: &known,
         place: 0,
         is_taken: false,
         ending: "\n",
@@ -211,8 +322,9 @@ fn record_script<A: Allocator + Copy, W: Write>(
 /// the last one the trace's end, too. Comments that the script has of what is expected are left out; all else stays, also
 /// how each line ends: the last one gets a line feed, where it has none, if comments follow. Where messages are to stand in
 /// words, the echo of the script's line is left out; where what the books hold is to be told, it stands behind the lines, in
-/// place of what the script says of that. Where one place alone is to be recorded, all else stays as it is. The answer is `Done`
-/// then. A site and a script are refused as by a run (`Refused`).
+/// place of what the script says of that. Where one place alone is to be recorded, all else stays as it is, and so do comments there
+/// of what the books hold, as far as that is met; lines that aren't played stay, too. Names stay where they stood, as far as what came
+/// is what they stand for. The answer is `Done` then. A site and a script are refused as by a run (`Refused`).
 ///
 /// `scratch` serves while the sites are read, `alloc` for all else. Once memory was refused (`NoMemory`), or `out`
 /// can't be written to (`Write`), nothing more is printed.
@@ -221,16 +333,16 @@ pub fn record_run<A: Allocator + Copy, W: Write>(
     scratch: Global,
     site: &str,
     peer: Option<&str>,
-    script: &str,
+    script: RecordedScript<'_>,
     recording: Recording,
     out: &mut W,
 ) -> Result<Status, LabFault>
-    ensures played { result ≡ Ok Status.Done → IsPlayed A site.now (texts_of peer.entry) script.now }
+    ensures played { result ≡ Ok Status.Done → IsPlayed A site.now (texts_of peer.entry) script.played.now }
     ensures differs { result ≢ Ok Status.Differs }
     ensures refused { result ≡ Ok Status.Refused →
         (described_site site.now ≡ None)
         ⊎ IsSomeAnd (texts_of peer.entry) (λ text. described_site text ≡ None)
-        ⊎ IsSome (first_unreadable (is_some peer.entry) script.now) }
+        ⊎ IsSome (first_unreadable (is_some peer.entry) script.played.now) }
     ensures memory { result ≡ Err LabFault.NoMemory → ¬ IsBlankFile site.now }
 {
     match read_sites(alloc, scratch, site, peer) {
