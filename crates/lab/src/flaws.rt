@@ -23,9 +23,11 @@ pub(crate) struct Numbered<'a> {
 
 /// A line up to which a script is run, as it can't be read.
 #[derive(Clone, Copy, Debug, PartialEq, Eq)]
-pub(crate) struct UnreadLine {
+pub(crate) struct UnreadLine<'a> {
     /// Its number, counted from 1.
     pub number: usize,
+    /// What it is with values in the place of its names, where all of them stand for something.
+    pub filled: Option<&'a str>,
     /// Whether it has a name that stands for nothing because a comment before it isn't met.
     pub is_unmet: bool,
 }
@@ -38,7 +40,7 @@ pub(crate) struct Marks<'a> {
     /// Names of comments that are misspelt, or seem to be.
     pub names: Vec<FlawedName<'a>>,
     /// The line up to which it is run, where there is one.
-    pub unread: Option<UnreadLine>,
+    pub unread: Option<UnreadLine<'a>>,
 }
 
 /// What of a script makes that it isn't met, whatever comes of it.
@@ -129,6 +131,15 @@ fn tell_never(
     reasons.tell(miss)
 }
 
+/// Tells that a line of a script can't be read.
+fn tell_unread(unread: UnreadLine<'_>, reasons: &mut Reasons<Global>) -> Result<(), LabFault> {
+    let line = unread.number;
+    match unread.filled {
+        Some(text) => reasons.tell(Miss::Filled { line, text }),
+        None => reasons.tell(Miss::Unreadable(line)),
+    }
+}
+
 /// Tells lines of a script that come to nothing.
 fn tell_idle(idle: &[Idle], reasons: &mut Reasons<Global>) -> Result<(), LabFault> {
     for line in idle {
@@ -161,7 +172,7 @@ fn tell_flaws(
         tell_flawed_name(alloc, *name, reasons)?;
     }
     if let Some(line) = flaws.marks.unread {
-        reasons.tell(Miss::Unreadable(line.number))?;
+        tell_unread(line, reasons)?;
     }
     tell_idle(&flaws.flawed, reasons)?;
     for line in &flaws.unmeant {

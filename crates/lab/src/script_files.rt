@@ -23,8 +23,8 @@ use screen_text::Escaped;
 use std::alloc::Global;
 use std::io::{self, Write};
 use std::rt::Files;
-use tested_scripts::recorded::record_run;
-use tested_scripts::{Miss, Named, print_miss, print_plan};
+use tested_scripts::recorded::{RecordedScript, record_run};
+use tested_scripts::{Miss, Named, Unread, WhyUnread, print_miss, print_plan};
 use undone_runs::tried::{Trial, try_undos};
 use undone_runs::{Tally, print_tally};
 
@@ -52,21 +52,41 @@ struct TestedScript<'a> {
     marks: Marks<'a>,
 }
 
-/// The text of a script that is tested: with values in the place of its names, up to the line that can't be read because of one; and
-/// that line.
-fn tested_of<'a>(named: Option<&'a Named>, script: &'a str) -> (&'a str, Option<UnreadLine>) {
-    let Some(named) = named else {
-        return (script, None);
-    };
-    match &named.unnamed {
-        Some(unnamed) => {
-            let line = UnreadLine {
-                number: unnamed.line,
-                is_unmet: unnamed.expected.is_some(),
-            };
-            (unnamed.front.as_str(), Some(line))
-        }
-        None => (named.text.as_str(), None),
+/// A line of a script that can't be read.
+fn unread_line(unread: &Unread) -> UnreadLine<'_> {
+    let number = unread.line;
+    match &unread.why {
+        WhyUnread::Unnamed { name: _, expected } => UnreadLine {
+            number,
+            filled: None,
+            is_unmet: expected.is_some(),
+        },
+        WhyUnread::Filled(text) => UnreadLine {
+            number,
+            filled: Some(text.as_str()),
+            is_unmet: false,
+        },
+    }
+}
+
+/// A script with values in the place of its names.
+fn whole_of<'a>(named: Option<&'a Named>, script: &'a str) -> &'a str {
+    match named {
+        Some(named) => named.text.as_str(),
+        None => script,
+    }
+}
+
+/// The text of a script that is tested: with values in the place of its names, up to the line that can't be read; and that line.
+fn tested_of<'a>(named: Option<&'a Named>, script: &'a str) -> (&'a str, Option<UnreadLine<'a>>) {
+    match named {
+        Some(
+            Named {
+                text: _,
+                unread: Some(unread),
+            },
+        ) => (unread.front.as_str(), Some(unread_line(unread))),
+        Some(_) | None => (whole_of(named, script), None),
     }
 }
 
@@ -95,7 +115,8 @@ fn test_over<R: Files + AllocGlobal, W: Write, E: Write>(
     let status = test_flawed(alloc, sites, &tested, test, &flaws, out)?;
     if status == Status::Refused {
         // the sites were read before
-        say_line(alloc, test.name, &tested, has_peer, naming, errors)?;
+        let whole = whole_of(named.as_ref(), text);
+        say_line(alloc, test.name, whole, has_peer, naming, errors)?;
     }
     if status == Status::Differs
         && let Some(kept) = kept
@@ -410,6 +431,23 @@ fn refuse_line<W: Write, E: Write>(
     }
 }
 
+/// What is played of a script that is recorded: all of it, or what stands before a line that can't be read, where what comes of one
+/// before that is recorded alone.
+fn played_of<'a>(named: Option<&'a Named>, script: &'a str, recording: Recording) -> &'a str {
+    match (named, recording.only) {
+        (
+            Some(
+                Named {
+                    text: _,
+                    unread: Some(unread),
+                },
+            ),
+            Some(only),
+        ) if only < unread.line => unread.front.as_str(),
+        (_, _) => whole_of(named, script),
+    }
+}
+
 /// Records the script of a file over sites.
 fn record_over<R: Files + AllocGlobal, W: Write, E: Write>(
     rt: &R,
@@ -431,13 +469,16 @@ fn record_over<R: Files + AllocGlobal, W: Write, E: Write>(
     }
     say_cut_script(script, &text, errors)?;
     say_other_sites(rt, sources, script, &text, errors)?;
-    let text = without_names(alloc, script, &sites, text, errors)?;
-    let peer = sites.peer();
-    let status = record_run(alloc, alloc, sites.first(), peer, &text, recording, out)?;
+    let named = say_names(alloc, script, &sites, &text, errors)?;
+    let played = played_of(named.as_ref(), &text, recording);
+    let written = text.as_str();
+    let recorded = RecordedScript { played, written };
+    let (first, peer) = (sites.first(), sites.peer());
+    let status = record_run(alloc, alloc, first, peer, recorded, recording, out)?;
     if status == Status::Refused {
-        say_refusal(alloc, sources, &sites, script, &text, errors)?;
+        say_refusal(alloc, sources, &sites, script, played, errors)?;
     } else {
-        say_idle_settings(alloc, script, &sites, &text, errors)?;
+        say_idle_settings(alloc, script, &sites, played, errors)?;
     }
     Ok(status)
 }

@@ -7,22 +7,18 @@ use run_listeners::LabFault;
 use screen_text::Escaped;
 use std::alloc::Global;
 use std::io::{self, Write};
-use tested_scripts::{Named, Unnamed, lines_of, named_script};
+use tested_scripts::{Named, Unread, WhyUnread, lines_of, named_script};
 
 /// Says that a line of a script has a name that stands for nothing, and which name is the nearest, of those that comments before the
 /// line expect something with.
 fn say_unnamed<E: Write>(
     path: &str,
-    unnamed: &Unnamed,
+    line: usize,
+    name: &str,
+    expected: Option<usize>,
     nearest: Option<&str>,
     errors: &mut E,
 ) -> io::Result<()> {
-    let Unnamed {
-        line,
-        name,
-        expected,
-        front: _,
-    } = unnamed;
     let path = Escaped(path);
     match (expected, nearest) {
         (Some(expected), _) => writeln!(
@@ -40,6 +36,23 @@ fn say_unnamed<E: Write>(
     }
 }
 
+/// Says which name of a line of a script stands for nothing, where that is why it can't be read.
+fn say_unread<E: Write>(
+    alloc: Global,
+    path: &str,
+    script: &str,
+    unread: &Unread,
+    errors: &mut E,
+) -> Result<(), LabFault> {
+    let WhyUnread::Unnamed { name, expected } = &unread.why else {
+        return Ok(());
+    };
+    let lines = lines_of(alloc, script)?;
+    let (before, _) = lines.split_at(unread.line.min(lines.len()));
+    let nearest = nearest_of(before, name.as_str());
+    Ok(say_unnamed(path, unread.line, name.as_str(), *expected, nearest, errors)?)
+}
+
 /// A script with values in the place of its names; nothing where it has none. Where one stands for nothing `errors` says so.
 pub(crate) fn say_names<E: Write>(
     alloc: Global,
@@ -52,14 +65,11 @@ pub(crate) fn say_names<E: Write>(
     if let Some(
         Named {
             text: _,
-            unnamed: Some(unnamed),
+            unread: Some(unread),
         },
     ) = &named
     {
-        let lines = lines_of(alloc, script)?;
-        let (before, _) = lines.split_at(unnamed.line.min(lines.len()));
-        let nearest = nearest_of(before, unnamed.name.as_str());
-        say_unnamed(path, unnamed, nearest, errors)?;
+        say_unread(alloc, path, script, unread, errors)?;
     }
     Ok(named)
 }

@@ -117,9 +117,7 @@ fn take_like<'s, 'k, A: Allocator>(
     line: CameLine<'_>,
     comments: &mut Vec<Comment<'s, 'k>, A>,
 ) -> Option<Comment<'s, 'k>> {
-    let place = comments
-        .iter()
-        .position(|comment| is_like(line, *comment))?;
+    let place = comments.iter().position(|comment| is_like(line, *comment))?;
     Some(comments.remove(place))
 }
 

@@ -9,7 +9,6 @@ mod heard;
 mod kept_names;
 mod lines;
 mod misses;
-mod misspelt;
 mod named;
 mod nearest;
 mod never;
@@ -23,11 +22,8 @@ mod values;
 
 pub use compare::{CameLine, Difference, find_difference, find_last_difference};
 pub use lines::{expected_in, is_any, is_script_line, lines_of, part_end};
-pub use misspelt::{FlawedName, NameFlaw, flawed_names};
 pub use named::{Named, Unread, WhyUnread, named_script};
 pub use nearest::Nearest;
 pub use never::{Never, NeverLine, Told, never_lines};
-pub use printed::{
-    Miss, TestName, ending_of, print_met, print_miss, print_not_met, print_plan,
-};
+pub use printed::{Miss, TestName, ending_of, print_met, print_miss, print_not_met, print_plan};
 pub use reasons::Reasons;

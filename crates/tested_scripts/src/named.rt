@@ -7,7 +7,6 @@ use crate::compare::{CameLine, first_behind};
 use crate::heard::{Came, PartListener, run_heard};
 use crate::lines::{expected_in, is_script_line, lines_of, part_end};
 use crate::misses::expect_held;
-use crate::misspelt::nearest_before;
 use crate::values::{Names, has_this_name};
 use expectations::{
     Answered, answer_to, has_name, held_in, is_answered, refused_in, values_of, with_stars,
@@ -26,8 +25,6 @@ pub enum WhyUnread<A: Allocator = Global> {
         name: String<A>,
         /// The number of the last comment before it that expects something with that, where there is one.
         expected: Option<usize>,
-        /// The name that is nearest to it, of those that comments before the line expect something with.
-        nearest: Option<String<A>>,
     },
     /// This text, with values in the place of its names, can't be read.
     Filled(String<A>),
@@ -357,14 +354,9 @@ impl<A: Allocator + Copy> Search<'_, '_, A> {
     /// Why the line at a place can't be read: it has this name, which stands for nothing.
     fn why_unnamed(&self, place: usize, name: &str) -> Result<WhyUnread<A>, AllocError> {
         let before = self.script.get(..place).unwrap_or(&[]);
-        let nearest = match nearest_before(before, name) {
-            Some(nearest) => Some(String::from_str(self.alloc, nearest)?),
-            None => None,
-        };
         Ok(WhyUnread::Unnamed {
             name: String::from_str(self.alloc, name)?,
             expected: expected_before(before, name),
-            nearest,
         })
     }
 

@@ -109,7 +109,8 @@ fn bare(word: &str) -> &str {
 
 /// Whether a line has a word for which another stands.
 fn has_word(line: &str, word: &str) -> bool {
-    line.split(' ').any(|other| is_word(bare(other), bare(word)))
+    line.split(' ')
+        .any(|other| is_word(bare(other), bare(word)))
 }
 
 /// How many words of a line that is expected another has.
@@ -120,25 +121,44 @@ fn common(line: &str, expected: &str) -> usize {
         .count()
 }
 
-/// What a line has in place of a word that is expected in some place: the same field, or the word in that place.
-fn in_place_of<'a>(line: &'a str, word: &str, place: usize) -> Option<&'a str> {
+/// What a part of a line has in place of a word that is expected in some place: the same field; else the word in that place, where
+/// that is none.
+fn in_place_of<'a>(part: &'a str, word: &str, place: usize) -> Option<&'a str> {
     match word.split_once('=') {
-        Some((key, _)) => line.split(' ').find(|other| match other.split_once('=') {
+        Some((key, _)) => part.split(' ').find(|other| match other.split_once('=') {
             Some((field, _)) => field == key,
             None => false,
         }),
-        None => line.split(' ').nth(place),
+        None => part
+            .split(' ')
+            .nth(place)
+            .filter(|found| !found.contains('=')),
     }
+}
+
+/// The first word of an expected part, the one in a place of a line, that this lacks; and what its part in that place has instead.
+fn lacked_in<'c, 'e>(
+    came: &'c str,
+    expected: &'e str,
+    number: usize,
+) -> Option<(&'e str, Option<&'c str>)> {
+    let part = came.split(';').nth(number).unwrap_or("");
+    for (place, word) in expected.split(' ').enumerate() {
+        if !has_word(came, word) {
+            return Some((word, in_place_of(part, word, place)));
+        }
+    }
+    None
 }
 
 /// A line as the nearest to one that is expected.
 fn nearest_line<'c, 'e>(came: &'c str, expected: &'e str) -> Nearest<'c, 'e> {
-    for (place, word) in expected.split(' ').enumerate() {
-        if !has_word(came, word) {
+    for (number, part) in expected.split(';').enumerate() {
+        if let Some((word, found)) = lacked_in(came, part, number) {
             return Nearest {
                 came,
-                expected: bare(word),
-                found: in_place_of(came, word, place).map(|found| bare(found)),
+                expected: word,
+                found,
             };
         }
     }

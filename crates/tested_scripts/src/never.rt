@@ -390,6 +390,11 @@ struct Before<'a> {
     has_simulators: bool,
 }
 
+/// Whether a text is the trace's end, and stands behind a script's last line.
+fn is_end(text: &str, before: Before<'_>) -> bool {
+    before.is_last && without_mark(text).starts_with("end")
+}
+
 /// Why no line can be as a text says that stands behind these lines, if behind any. The trace's end comes behind the last, or by
 /// itself.
 fn why_never_behind<'a, A: Allocator + Copy>(
@@ -401,7 +406,7 @@ fn why_never_behind<'a, A: Allocator + Copy>(
 ) -> Result<Option<Never<'a>>, AllocError> {
     match before.line {
         None if !before.is_last => Ok(Some(Never::First)),
-        Some(line) if is_silent(line) && !before.is_last => Ok(Some(Never::Silent)),
+        Some(line) if is_silent(line) && !is_end(text, before) => Ok(Some(Never::Silent)),
         Some(_) if without_mark(text).starts_with("end") && !before.is_last => {
             Ok(Some(Never::End))
         }

@@ -33,6 +33,12 @@ pub enum Miss<'a> {
         expected: Option<&'a str>,
         came: Option<&'a str>,
     },
+    /// A line of the script, counted from 1, expects a line that came, but before what stands before that in the script.
+    Early {
+        line: usize,
+        expected: &'a str,
+        came: &'a str,
+    },
     /// A line of the script, counted from 1, says that no line begins with this text, but this one does.
     Begins {
         line: usize,
@@ -54,14 +60,9 @@ pub enum Miss<'a> {
     /// A line of the script, counted from 1, can't be read.
     Unreadable(usize),
     /// A line of the script, counted from 1, can't be read with values in the place of its names: it is this text then.
-    Filled { line: usize, text: &'a str },
-    /// A line of the script, counted from 1, has a name that no comment before it expects something with, or that stands nowhere else
-    /// and is nearly another. This name is the nearest.
-    Name {
+    Filled {
         line: usize,
-        name: &'a str,
-        is_lone: bool,
-        nearest: Option<&'a str>,
+        text: &'a str,
     },
     /// The file can't be read.
     NoFile,
@@ -74,13 +75,13 @@ impl Miss<'_> {
     pub(crate) fn line(&self) -> usize {
         match *self {
             Miss::Differs { line, .. } => line,
+            Miss::Early { line, .. } => line,
             Miss::Begins { line, .. } => line,
             Miss::Holds { line, .. } => line,
             Miss::Slipped(line) => line,
             Miss::Idle(line) => line,
             Miss::Unreadable(line) => line,
             Miss::Filled { line, .. } => line,
-            Miss::Name { line, .. } => line,
             Miss::Nothing | Miss::NoFile | Miss::NoSite => 0,
         }
     }
@@ -154,25 +155,6 @@ pub(crate) fn print_missing<W: Write>(
     }
 }
 
-/// Prints that a line of the script has a name that is misspelt, or seems to be, and which name is the nearest.
-fn print_name<W: Write>(
-    out: &mut W,
-    line: usize,
-    name: &str,
-    is_lone: bool,
-    nearest: Option<&str>,
-) -> io::Result<()> {
-    if is_lone {
-        write!(out, "# line {line}: ${name} stands nowhere else")?;
-    } else {
-        write!(out, "# line {line}: ${name} stands for nothing")?;
-    }
-    match nearest {
-        Some(nearest) => writeln!(out, "; the nearest name is ${nearest}"),
-        None => writeln!(out),
-    }
-}
-
 /// Prints why a test isn't met.
 pub(crate) fn print_reason<W: Write>(out: &mut W, miss: Miss<'_>) -> io::Result<()> {
     match miss {
@@ -184,6 +166,15 @@ pub(crate) fn print_reason<W: Write>(out: &mut W, miss: Miss<'_>) -> io::Result<
             writeln!(out, "# line {line}")?;
             print_side(out, "expected", expected)?;
             print_side(out, "came", came)
+        }
+        Miss::Early {
+            line,
+            expected,
+            came,
+        } => {
+            writeln!(out, "# line {line}")?;
+            print_side(out, "expected", Some(expected))?;
+            writeln!(out, "# came too early: {}", Escaped(came))
         }
         Miss::Begins {
             line,
@@ -212,12 +203,6 @@ pub(crate) fn print_reason<W: Write>(out: &mut W, miss: Miss<'_>) -> io::Result<
         Miss::Filled { line, text } => {
             writeln!(out, "# line {line} can't be read: {}", Escaped(text))
         }
-        Miss::Name {
-            line,
-            name,
-            is_lone,
-            nearest,
-        } => print_name(out, line, name, is_lone, nearest),
         Miss::NoFile => writeln!(out, "# the file can't be read"),
         Miss::NoSite => writeln!(out, "# the site can't be read"),
     }

@@ -8,9 +8,7 @@ ghost use Rattle.lab_runs.specs.Sites.{texts_of, views_of};
 use crate::came::{came_lines, printed_lines};
 use crate::compare::CameLine;
 use crate::heard::{Came, PartListener, run_heard};
-use crate::kept_names::{
-    Comment, asked_in, met_comments, named_comments, text_held, text_like,
-};
+use crate::kept_names::{Comment, asked_in, met_comments, named_comments, text_held, text_like};
 use crate::lines::{expected_in, is_input, is_script_line, lines_of};
 use crate::printed::{ending_of, recorded_text};
 use expectations::{

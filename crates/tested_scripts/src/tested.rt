@@ -18,6 +18,7 @@ use crate::misses::{expect_held, has_broken, holds_all, tell_all_unheld, tell_br
 use crate::nearest::{nearest_to, shown};
 use crate::printed::Miss;
 use crate::reasons::Reasons;
+use expectations::is_met_by;
 use lab_runs::run::{Sites, Status, read_sites, refuse_site};
 use lab_script::script::{ScriptFault, read_script};
 use run_listeners::{LabFault, Printing};
@@ -94,6 +95,11 @@ fn tell_not_among<A: Allocator + Copy>(
     reasons.tell_missing(line, expected, nearest, came.len())
 }
 
+/// Whether a line that came is what is expected.
+fn is_met(line: CameLine<'_>, expected: &str) -> bool {
+    is_met_by(line.text, line.words, expected)
+}
+
 /// Tells where a part, which begins behind so many lines of the script, differs from what came of it.
 fn tell_difference<A: Allocator + Copy>(
     alloc: A,
@@ -111,8 +117,15 @@ fn tell_difference<A: Allocator + Copy>(
     match expected {
         Some(expected) if is_any_before(met) => {
             let place = first_behind(alloc, met, came)?;
-            let (_, behind) = came.split_at(place.min(came.len()));
-            tell_not_among(reasons, line, expected, behind)
+            let (before, behind) = came.split_at(place.min(came.len()));
+            match before.iter().rev().find(|line| is_met(**line, expected)) {
+                Some(found) => reasons.tell(Miss::Early {
+                    line,
+                    expected,
+                    came: shown(*found, Some(expected)),
+                }),
+                None => tell_not_among(reasons, line, expected, behind),
+            }
         }
         Some(_) | None => {
             let came = came.get(difference.came).map(|line| shown(*line, expected));

@@ -2,7 +2,7 @@
 use super::failing::Failing;
 use super::{SITE, equals_at, holds_at, is_whole_or_cut};
 use expectations::Recording;
-use lab::recorded::record_run;
+use lab::recorded::{RecordedScript, record_run};
 use lab::run::Status;
 use lab::tested::test_run;
 use lab::{LabFault, Reasons};
@@ -37,13 +37,19 @@ const PLAIN: Recording = Recording {
     only: None,
 };
 
+/// The script, which has no names.
+const RECORDED: RecordedScript<'static> = RecordedScript {
+    played: SCRIPT,
+    written: SCRIPT,
+};
+
 /// What the record of the script prints, and how it ends.
 fn recorded<A: Allocator + Copy>(
     alloc: A,
     scratch: Global,
 ) -> Result<(Result<Status, LabFault>, String), Fail> {
     let mut out = Vec::new(scratch);
-    let status = record_run(alloc, scratch, SITE, None, SCRIPT, PLAIN, &mut out);
+    let status = record_run(alloc, scratch, SITE, None, RECORDED, PLAIN, &mut out);
     Ok((status, String::from_utf8(out)?))
 }
 
@@ -91,7 +97,15 @@ fn each_request_of_a_test_is_refused(rt: HostRuntime) -> Result<(), Fail> {
 fn each_write_of_a_record_fails(rt: HostRuntime) -> Result<(), Fail> {
     for before in 0..1000 {
         let mut out = Failing::after(rt.alloc(), before);
-        let status = record_run(rt.alloc(), rt.alloc(), SITE, None, SCRIPT, PLAIN, &mut out);
+        let status = record_run(
+            rt.alloc(),
+            rt.alloc(),
+            SITE,
+            None,
+            RECORDED,
+            PLAIN,
+            &mut out,
+        );
         if !out.failed {
             holds_at(&rt, 20 < before, (before, "writes"));
             return Ok(());
