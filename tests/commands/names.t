@@ -39,7 +39,7 @@ A channel stands in a line as its cell, TRX and timeslot; half of a timeslot, to
   1..1
   ok 1 - half.txt
 
-run and record play the same lines. A record has values in the place of names.
+run and record play the same lines. A record keeps names.
 
   $ ./lab run tests/half_rate/site.toml half.txt | grep open
   event open 1 1/1/3/0 -> done
@@ -47,9 +47,9 @@ run and record play the same lines. A record has values in the place of names.
   event open 2 1/1/3/0 -> refused 6 1/1/3/0
   $ ./lab record tests/half_rate/site.toml half.txt --words
   seize 1 1 half
-  #> event open 1 1/1/3/0 -> done
+  #> event open 1 $channel -> done
   #> out abis 1 1 CHANNEL ACTIVATION tn=3/0 activation=0 mode=00010901 reference=-
-  open 2 1 1 3/0
+  open 2 $channel
   #> event open 2 1/1/3/0 -> refused 6 1/1/3/0
   #> end channels=1 calls=1 references=0 timers=0
 
@@ -130,6 +130,33 @@ it are tested.
   [1]
   $ cat errors
   unmet.txt:5: $channel stands for nothing: line 2 isn't met
+
+A line that can't be read with what its names stand for is told with that.
+
+  $ printf 'open 1 0 0 3\n#> event open 1 $channel -> done\n#> ..\nclear $channel\n#= calls 0\n' >filled.txt
+  $ ./lab test examples/two_cells.toml filled.txt 2>/dev/null
+  1..1
+  not ok 1 - filled.txt
+  # line 4 can't be read: clear 0 0 3
+  [2]
+
+A reply of several words is one value.
+
+  $ cat >reply.txt <<'END'
+  > open 1 0 0 3
+  > #> ..
+  > open 2 0 0 3
+  > #> event open 2 0/0/3 -> $reply
+  > open 2 0 0 5
+  > #> event open 2 0/0/5 -> $reply
+  > END
+  $ ./lab test examples/two_cells.toml reply.txt 2>/dev/null
+  1..1
+  not ok 1 - reply.txt
+  # line 6
+  # expected: event open 2 0/0/5 -> refused 6 0/0/3
+  # came: event open 2 0/0/5 -> refused 4
+  [1]
 
 A misspelt name in a line is told with the nearest that there is.
 

@@ -225,6 +225,26 @@ So it is where what came is taken at one place after another: that is the record
   1..1
   ok 1 - taken.txt
 
+Names stay where they stood, as far as what came is what they stand for. What the books hold is taken, too.
+
+  $ cat >names.txt <<'END'
+  > seize 1 1 half
+  > #> event open 1 $channel -> refused 4
+  > #> ..
+  > #= calls 2
+  > #= call 7 0/0/3
+  > open 2 $channel
+  > #> event open 2 $channel -> *
+  > END
+  $ ./lab record tests/half_rate/site.toml names.txt --accept 2 --words 2>/dev/null
+  seize 1 1 half
+  #> event open 1 $channel -> done
+  #> out abis 1 1 CHANNEL ACTIVATION tn=3/0 activation=0 mode=00010901 reference=-
+  #= calls 1
+  #= call 7 -
+  open 2 $channel
+  #> event open 2 $channel -> *
+
 The last line gets a line feed only where comments follow it.
 
   $ printf 'open 1 0 0 3\n#> ..\nclear 1' >cut.txt
