@@ -99,7 +99,10 @@ impl<W: Write, A: Allocator + Copy> Recorder<'_, W, A> {
 
     /// The line that is played at a place.
     fn known_at(&self, place: usize) -> &str {
-        self.known.get(place).copied().unwrap_or("")
+        match self.known.get(place) {
+            Some(line) => *line,
+            None => "",
+        }
     }
 
     /// The text of a comment before the place that expects something of the books, where they hold something else, and that is
