@@ -1,6 +1,6 @@
 -- What a journal that is written shows to its callers. Ours, of no standard. What is told of a file is what is handed to it: what a
 -- file system makes of that no definition says.
-use Rattle.std.specs.Prelude.{◌≡◌, ◌≢◌, ◌≤◌, ◌-◌, ℕ, List, [], ◌++◌, length, max, Option, Some, None, IfSome, ⊤}
+use Rattle.std.specs.Prelude.{◌≡◌, ◌≢◌, ◌≤◌, ◌-◌, ℕ, ◌==◌, Bool, false, if◌then◌else◌, List, [], ◌∷◌, ◌++◌, length, max, slice_get, Option, Some, None, IfSome, ⊤}
 use Rattle.std.specs.Io.KnownBytes.{Appends}
 use Rattle.journal_records.specs.Records.{record_text}
 use Rattle.journal_records.specs.Files.{first_line}
@@ -52,6 +52,19 @@ IsRead {F} remaining octets = (opened : F) × IfSome (remaining opened) (λ all.
 -- with which octets a file begins that begins behind a line
 abbrev pub begun : ℕ → List ℕ → List ℕ
 begun number head = first_line ++ record_text number head
+
+-- the line is this one, if there is one
+abbrev pub is_line : ℕ → Option ℕ → Bool
+is_line line None = false
+is_line line (Some last) = last == line
+
+-- the line is the last of those behind which files begin
+abbrev pub is_last : ℕ → List ℕ → Bool
+is_last line spans = is_line line (slice_get spans (length spans - 1))
+
+-- behind which lines files begin once one begins behind this line: where the last of them does so already, they stay as they are
+abbrev pub spans_with : ℕ → List ℕ → List ℕ
+spans_with line spans = if is_last line spans then spans else spans ++ line ∷ []
 
 -- A journal is as it was, but for what waits and for its numbers.
 pub record SameFiles {R F D : Type 0} (j j' : Journal R F D) : Type 0 where

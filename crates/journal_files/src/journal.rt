@@ -1,9 +1,9 @@
 //! A journal, open for writing.
-ghost use Rattle.std.specs.Prelude.{◌≡◌, ◌≢◌, ◌↔◌, ◌≤◌, ◌+◌, ◌-◌, ◌^◌, ◌∷◌, ◌++◌, [], List, ℕ, length, min, IsTrue, Ok, Err, None, OnOk, OnErr, IfOk, IfSome, IfNone};
+ghost use Rattle.std.specs.Prelude.{◌≡◌, ◌≢◌, ◌↔◌, ◌<◌, ◌≤◌, ◌+◌, ◌-◌, ◌^◌, ◌∷◌, ◌++◌, [], List, ℕ, length, min, vec_len, vec_capacity, IsTrue, Ok, Err, None, OnOk, OnErr, IfOk, IfSome, IfNone};
 ghost use Rattle.std.specs.Io.KnownBytes.{Appends};
 ghost use Rattle.journal_records.specs.Records.{record_text};
 ghost use Rattle.journal_files.specs.declared.journal.BeginFault.TheVariants.{NotBegun};
-ghost use Rattle.journal_files.specs.Journals.{file_of, waiting_of, last_of, spans_of, lines_of, octets_of, most_waiting, long, keep_of, begun, IsHanded, SameFiles, AreKept, MayGo, OldestGo};
+ghost use Rattle.journal_files.specs.Journals.{file_of, waiting_of, last_of, spans_of, lines_of, octets_of, most_waiting, long, keep_of, begun, is_last, spans_with, IsHanded, SameFiles, AreKept, MayGo, OldestGo};
 
 use crate::folder::{Folder, is_moved, is_want_of_room};
 use journal_records::{FIRST_LINE, append_record};
@@ -227,9 +227,9 @@ impl<'a, R: Files + AllocGlobal> Journal<'a, R> {
         put_down(&mut self.file, &mut self.waiting)
     }
 
-    /// Begins a file after the last line, with this head. All that was noted is on the disk then. Older files that needn't
-    /// be kept are removed; the answer is the first error of that. (`Unknown` also if another folder has the folder's path
-    /// by then.)
+    /// Begins a file after the last line, with this head. All that was noted is on the disk then. If the last file begins after
+    /// that line, too, the new file takes its place. Older files that needn't be kept are removed; the answer is the first error
+    /// of that. (`Unknown` also if another folder has the folder's path by then.)
     pub fn begin_span(
         &mut self,
         alloc: Global,
@@ -238,7 +238,7 @@ impl<'a, R: Files + AllocGlobal> Journal<'a, R> {
         ensures file { OnOk result (IsHanded R.File.contents (begun (last_of self.old) head.now) (file_of self.new)) }
         ensures octets { OnOk result (octets_of self.new ≡ length (begun (last_of self.old) head.now)) }
         ensures spans { OnOk result (OldestGo (keep_of self.old)
-            (spans_of self.old ++ last_of self.old ∷ []) (spans_of self.new)) }
+            (spans_with (last_of self.old) (spans_of self.old)) (spans_of self.new)) }
         ensures few { result ≡ Ok None → AreKept (keep_of self.new) (spans_of self.new) }
         ensures keep { keep_of self.new ≡ keep_of self.old }
         ensures kept { (error : _) → result ≡ Err (NotBegun error) → SameFiles self.old self.new }
@@ -259,7 +259,7 @@ impl<'a, R: Files + AllocGlobal> Journal<'a, R> {
             .map_err(BeginFault::Unknown)?;
         self.file = file;
         self.octets = octets.len() as u64;
-        self.spans.push_reserved(self.last);
+        push_line(&mut self.spans, self.last);
         match self.remove_old() {
             Some(error) if is_moved(error) => Err(BeginFault::Unknown(error)),
             stays => Ok(stays),
@@ -296,6 +296,26 @@ impl<'a, R: Files + AllocGlobal> Journal<'a, R> {
             self.spans.remove(0);
         }
         None
+    }
+}
+
+/// Whether a line is the last of those behind which files begin.
+fn is_last(spans: &[u64], line: u64) -> bool
+    ensures { result ≡ is_last line spans.now }
+{
+    match spans.last().copied() {
+        Some(last) => last == line,
+        None => false,
+    }
+}
+
+/// A file begins behind a line. If the last file begins there already, the new one has its name.
+fn push_line(spans: &mut Vec<u64>, line: u64)
+    requires room { vec_len spans.old < vec_capacity spans.old }
+    ensures items { spans.new.items ≡ spans_with line spans.old.items }
+{
+    if !is_last(spans, line) {
+        spans.push_reserved(line);
     }
 }
 

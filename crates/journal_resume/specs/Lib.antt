@@ -3,3 +3,4 @@ pub mod Heads
 pub mod Resume
 pub mod Refusals
 pub mod Wholes
+pub mod Changed

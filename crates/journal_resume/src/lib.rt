@@ -1,8 +1,9 @@
 //! Reads a journal's file: the book to which the events of its head and of its records lead; all of it but a record that was
-//! cut (`wholes`); what it says was sent (`sent`); and where a damaged file can be cut (`cuts`). Makes the head of a new
-//! file.
+//! cut (`wholes`); what it says was sent (`sent`); and where a damaged file can be cut (`cuts`). Reads one that was written over
+//! another site (`changed`). Makes the head of a new file.
 #![tactic(auto)]
 
+mod changed;
 mod cuts;
 mod ends;
 mod head;
@@ -12,6 +13,7 @@ mod sent;
 mod traces;
 mod wholes;
 
+pub use changed::{ChangedFault, resume_changed};
 pub use cuts::{Damage, damage_at};
 pub use head::{HeadFault, head_body};
 pub use journal::resume;

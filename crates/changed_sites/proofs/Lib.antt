@@ -1,0 +1,2 @@
+-- where the channels of calls are alike, so are their references
+pub mod AlikeFacts
