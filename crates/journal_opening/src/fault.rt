@@ -1,5 +1,5 @@
 //! Why no journal is opened, and how a person is told.
-use screen_text::{Escaped, Reason};
+use screen_text::{Escaped, PrintFault, Reason};
 use std::alloc::AllocError;
 use std::fmt;
 use std::io::{self, Write};
@@ -50,5 +50,21 @@ pub(crate) fn refuse_file<E: Write>(path: &str, error: io::Error, errors: &mut E
         io::ErrorKind::OutOfMemory => OpenFault::NoMemory,
         io::ErrorKind::InvalidInput => refuse(path, "isn't a file", errors),
         _ => refuse(path, Reason(&error), errors),
+    }
+}
+
+/// Tells why the journal of a folder isn't opened, if that wasn't told yet. Want of memory and a failing write are handed on.
+pub(crate) fn tell<E: Write>(
+    path: &str,
+    fault: OpenFault,
+    errors: &mut E,
+) -> Result<(), PrintFault> {
+    match fault {
+        OpenFault::NoMemory => Err(PrintFault::NoMemory),
+        OpenFault::Write => Err(PrintFault::Write),
+        OpenFault::Told => Ok(()),
+        OpenFault::System(error) => {
+            Ok(writeln!(errors, "{}: {}", Escaped(path), Reason(&error))?)
+        }
     }
 }

@@ -3,7 +3,7 @@ ghost use Rattle.std.specs.Prelude.{◌≡◌, ◌∷◌, [], ℕ, List, IfOk, I
 ghost use Rattle.journal_files.specs.Journals.{IsRead, keep_of, spans_of};
 ghost use Rattle.journal_opening.specs.Openings.{last_span, spans_by, GoesOn, Begins, OpensBy, Opens};
 
-use crate::fault::{OpenFault, refuse, refuse_file};
+use crate::fault::{OpenFault, refuse, refuse_file, tell};
 use crate::found::{Found, found_in, say_resumed};
 use crate::told::{UNHEARD, octets_of, told_again};
 use cell_table::Site;
@@ -36,7 +36,7 @@ pub struct Asked<'a> {
 }
 
 /// Tells which files of the folder aren't the journal's.
-fn say_others<E: Write>(path: &str, listing: &Listing, errors: &mut E) -> Result<(), OpenFault> {
+pub(crate) fn say_others<E: Write>(path: &str, listing: &Listing, errors: &mut E) -> Result<(), OpenFault> {
     for name in &listing.others {
         writeln!(
             errors,
@@ -50,7 +50,7 @@ fn say_others<E: Write>(path: &str, listing: &Listing, errors: &mut E) -> Result
 }
 
 /// Tells that the name of a folder in which a journal begins may not be on the disk, if it isn't known to be.
-fn say_unsynced<E: Write>(path: &str, is_named: bool, errors: &mut E) -> Result<(), OpenFault> {
+pub(crate) fn say_unsynced<E: Write>(path: &str, is_named: bool, errors: &mut E) -> Result<(), OpenFault> {
     if is_named {
         return Ok(());
     }
@@ -63,7 +63,7 @@ fn say_unsynced<E: Write>(path: &str, is_named: bool, errors: &mut E) -> Result<
 }
 
 /// Tells that there was no room to write the last file anew, where that is so.
-fn say_unroomed<R: Files + AllocGlobal, E: Write>(
+pub(crate) fn say_unroomed<R: Files + AllocGlobal, E: Write>(
     journal: &Journal<'_, R>,
     path: &str,
     errors: &mut E,
@@ -81,10 +81,10 @@ fn say_unroomed<R: Files + AllocGlobal, E: Write>(
 
 /// The last file of a journal, which was read: its number, its path and its octets.
 #[derive(Clone, Copy)]
-struct LastFile<'a> {
-    number: u64,
-    path: &'a str,
-    octets: &'a [u8],
+pub(crate) struct LastFile<'a> {
+    pub(crate) number: u64,
+    pub(crate) path: &'a str,
+    pub(crate) octets: &'a [u8],
 }
 
 /// Goes on with a journal whose last file was read. Before anything is told of it, or sent once more, it is on the disk.
@@ -159,7 +159,7 @@ fn go_on<'a, R: Files + AllocGlobal, W: Write, E: Write>(
 }
 
 /// Begins a journal in a folder that has none; no line can have been heard then.
-fn begin<'a, R: Files + AllocGlobal, E: Write>(
+pub(crate) fn begin<'a, R: Files + AllocGlobal, E: Write>(
     rt: &'a R,
     folder: Folder<'a, R>,
     asked: Asked<'a>,
@@ -189,7 +189,7 @@ fn begin<'a, R: Files + AllocGlobal, E: Write>(
 }
 
 /// Makes the folder, as [`Folder::make`] does; it is refused where another thing stands there.
-fn make_folder<R: Files + AllocGlobal, E: Write>(
+pub(crate) fn make_folder<R: Files + AllocGlobal, E: Write>(
     rt: &R,
     path: &str,
     errors: &mut E,
@@ -204,7 +204,7 @@ fn make_folder<R: Files + AllocGlobal, E: Write>(
 }
 
 /// Locks the folder; it is refused where another controller has it.
-fn lock_folder<'a, R: Files + AllocGlobal, E: Write>(
+pub(crate) fn lock_folder<'a, R: Files + AllocGlobal, E: Write>(
     rt: &'a R,
     path: &'a str,
     errors: &mut E,
@@ -223,7 +223,7 @@ where
 }
 
 /// The last of the numbers that files have in their names.
-fn last_of(spans: &[u64]) -> Option<u64>
+pub(crate) fn last_of(spans: &[u64]) -> Option<u64>
     ensures { result ≡ last_span spans.now }
 {
     spans.last().copied()
@@ -300,11 +300,8 @@ where
 {
     match try_to_open(rt, asked, site, site_sum, out, errors) {
         Ok(opened) => Ok(Some(opened)),
-        Err(OpenFault::NoMemory) => Err(PrintFault::NoMemory),
-        Err(OpenFault::Write) => Err(PrintFault::Write),
-        Err(OpenFault::Told) => Ok(None),
-        Err(OpenFault::System(error)) => {
-            writeln!(errors, "{}: {}", Escaped(asked.folder), Reason(&error))?;
+        Err(fault) => {
+            tell(asked.folder, fault, errors)?;
             Ok(None)
         }
     }
