@@ -10,7 +10,7 @@ use Rattle.trace_entries.specs.Entries.{entries_of, events_of, HasReplies}
 use Rattle.journal_records.specs.Records.{record_text}
 use Rattle.journal_records.specs.Files.{first_line}
 use Rattle.journal_files.specs.declared.journal.Journal.{Journal}
-use Rattle.journal_files.specs.Journals.{begun, file_of, last_of, waiting_of, IsHanded}
+use Rattle.journal_files.specs.Journals.{begun, file_of, last_of, waiting_of, spans_with, IsHanded, OldestGo}
 use Rattle.journal_resume.specs.Heads.{site_line, BeginsWithLine, LeadsTo}
 use Rattle.journal_resume.specs.Resume.{events_in, IsReadable, IsJournal}
 use Rattle.changed_sites.specs.Alike.{HasAlike}
@@ -100,3 +100,9 @@ went_on_changed contents old old_sum sum site number octets left j b last journa
       handed = handed;
       none_waits = none;
     }
+
+pub oldest_gone : (keep keep' : Option ℕ) (line line' : ℕ) (spans spans' new : List ℕ) → keep' ≡ keep → line' ≡ line → spans' ≡ spans →
+    OldestGo keep (spans_with line spans) new → OldestGo keep' (spans_with line' spans') new
+oldest_gone keep keep' line line' spans spans' new same_keep same_line same_spans go =
+    subst (λ k. OldestGo k (spans_with line' spans') new) (sym same_keep)
+    (subst (λ l. OldestGo keep (spans_with l spans') new) (sym same_line) (subst (λ s. OldestGo keep (spans_with line s) new) (sym same_spans) go))

@@ -6,8 +6,9 @@ ghost use Rattle.journal_resume.specs.Heads.{site_line, BeginsWithLine, LeadsTo}
 ghost use Rattle.journal_opening.specs.Openings.{last_span};
 ghost use Rattle.journal_opening.specs.Changed.{BeginsBehind, GoesOnChanged, OpensChangedBy, OpensChanged};
 
+use crate::differing::found_changed;
 use crate::fault::{OpenFault, refuse, tell};
-use crate::found::{Found, found_changed, say_resumed};
+use crate::found::{Found, say_resumed};
 use crate::opening::{
     Asked, LastFile, Opened, begin, last_of, lock_folder, make_folder, say_others, say_unroomed,
     say_unsynced,
@@ -84,7 +85,7 @@ fn go_on_anew<'a, R: Files + AllocGlobal, E: Write>(
 ) -> Result<Journal<'a, R>, OpenFault>
     ensures handed { IfOk result (λ j. (own : List ℕ) × BeginsBehind site_sum found.now.last found.now.book own
         × IsHanded R.File.contents own (file_of j)) }
-    ensures spans { IfOk result (λ j. OldestGo (keep_of j) (spans_with found.now.last spans.items) (spans_of j)) }
+    ensures spans { IfOk result (λ j. OldestGo (keep_of j) (spans_with (last_of j) spans.items) (spans_of j)) }
     ensures last { IfOk result (λ j. last_of j ≡ found.now.last) }
     ensures waiting { IfOk result (λ j. waiting_of j ≡ []) }
     ensures keep { IfOk result (λ j. keep_of j ≡ asked.entry.keep) }

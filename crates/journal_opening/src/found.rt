@@ -1,14 +1,10 @@
 //! The book of a journal's file.
 ghost use Rattle.std.specs.Prelude.{◌≢◌, ◌≤◌, ◌↔◌, [], length, drop, IfOk, IsTrue};
-ghost use Rattle.changed_sites.specs.Alike.{HasAlike};
 ghost use Rattle.journal_resume.specs.Resume.{IsJournal};
 
-use crate::differing::Differing;
 use crate::fault::{OpenFault, refuse};
 use cell_table::Site;
-use journal_resume::{
-    ChangedFault, ResumeFault, Resumed, damage_at, resume, resume_changed,
-};
+use journal_resume::{ResumeFault, Resumed, damage_at, resume};
 use radio_book::book::Book;
 use screen_text::Escaped;
 use std::alloc::Global;
@@ -33,7 +29,7 @@ fn refuse_damaged<E: Write>(path: &str, octets: &[u8], number: u64, errors: &mut
 }
 
 /// Tells why the octets of a file are refused.
-fn refuse_octets<E: Write>(
+pub(crate) fn refuse_octets<E: Write>(
     path: &str,
     octets: &[u8],
     fault: ResumeFault,
@@ -65,47 +61,6 @@ pub(crate) fn found_in<E: Write>(
         Ok(resumed) => resumed,
         Err(fault) => return Err(refuse_octets(path, octets, fault, errors)),
     };
-    Ok(Found {
-        book,
-        last,
-        whole: octets.len() - left.len(),
-        is_cut: !left.is_empty(),
-    })
-}
-
-/// The book of the octets of a file that has this number in its name, and was written over another site.
-pub(crate) fn found_changed<E: Write>(
-    alloc: Global,
-    path: &str,
-    old: &Site,
-    old_sum: u32,
-    site: Arc<Site>,
-    number: u64,
-    octets: &[u8],
-    errors: &mut E,
-) -> Result<Found, OpenFault>
-    ensures within { IfOk result (λ found. found.whole ≤ length octets.now) }
-    ensures journal { IfOk result (λ found. IsJournal old_sum site.value number octets.now found.book found.last
-        (drop found.whole octets.now)) }
-    ensures alike { IfOk result (λ found. HasAlike old.now found.book) }
-    ensures cut { IfOk result (λ found. IsTrue found.is_cut ↔ (drop found.whole octets.now ≢ [])) }
-{
-    let told = site.clone()?;
-    let Resumed { book, last, left } =
-        match resume_changed(alloc, old, old_sum, site, number, octets) {
-            Ok(resumed) => resumed,
-            Err(ChangedFault::Refused(fault)) => {
-                return Err(refuse_octets(path, octets, fault, errors));
-            }
-            Err(ChangedFault::Differs(difference)) => {
-                let differing = Differing {
-                    old,
-                    site: &told,
-                    difference,
-                };
-                return Err(refuse(path, differing, errors));
-            }
-        };
     Ok(Found {
         book,
         last,

@@ -15,7 +15,7 @@ use crate::site_files::say_site;
 use crate::view_paths::{is_site, refuse_twice};
 use cell_table::{Site, SiteFault};
 use journal_files::Locking;
-use journal_opening::{Opened, open_journal};
+use journal_opening::{Opened, open_changed_journal, open_journal};
 use journal_records::checksum;
 use journal_runs::{Held, Journaled};
 use lab_runs::run::{Status, refuse_site};
@@ -197,6 +197,40 @@ fn live_journaled<R: Files + AllocGlobal, I: BufRead + LineReader, W: Write, E: 
     ended_viewed(ended_live(ended, errors), written)
 }
 
+/// The path of the capture, where that of the site's file is the same, or that of the file as it was.
+fn site_or_old<'a, R: Files>(rt: &R, asked: AskedLive<'a>) -> Option<&'a str> {
+    if let Some(pcap) = is_site(rt, asked.path, asked.views) {
+        return Some(pcap);
+    }
+    let old = asked.journal?.site_changed?;
+    is_site(rt, old, asked.views)
+}
+
+/// Opens a journal, over the site as it is, or as it was when the journal was written; nothing if it is refused, or the file
+/// of the old site is, and then `errors` says why.
+fn opened_journal<'a, R: Files + AllocGlobal, W: Write, E: Write>(
+    rt: &'a R,
+    words: JournalWords<'a>,
+    site: Arc<Site>,
+    sum: u32,
+    out: &mut W,
+    errors: &mut E,
+) -> Result<Option<Opened<'a, R>>, LabFault>
+where
+    R::File: Locking,
+{
+    let asked = asked_of(words);
+    let Some(path) = words.site_changed else {
+        return lab_result(open_journal(rt, asked, site, sum, out, errors));
+    };
+    let Some(old) = site_of(rt, path, out, errors)? else {
+        return Ok(None);
+    };
+    lab_result(open_changed_journal(
+        rt, asked, &old.site, old.sum, site, sum, out, errors,
+    ))
+}
+
 /// Runs a controller over the site of a file. It handles the lines of `input` as they come, and prints the trace to `out`,
 /// as [`live_run`] tells it; `out` is flushed after each line. Words and states are printed with the lines, if these views
 /// are asked for. The capture's file is emptied once the site was read, and then grows with each line. The line `summary`
@@ -205,7 +239,7 @@ fn live_journaled<R: Files + AllocGlobal, I: BufRead + LineReader, W: Write, E: 
 /// The history begins anew after a line with which it has the number of entries that is asked for, or with which the
 /// journal's file has this number of lines. With a journal, what came of each line is on the disk before any of it is
 /// written to `out`. If the folder has a journal already, the controller goes on with its book and its numbers of lines, and
-/// `errors` says so.
+/// `errors` says so. So it does with a journal of another site, if the file of that one is named.
 ///
 /// The file and its site are refused as by [`run_files`](crate::files::run_files), before anything of `input` is read. At
 /// the end of `input` the answer is `Done`. It is `Refused` if the file, the site or the journal is refused, if the
@@ -224,7 +258,7 @@ pub fn live_file<R: Files + AllocGlobal, I: Read + Drop, W: Write, E: Write>(
 where
     R::File: Locking,
 {
-    if let Some(pcap) = is_site(rt, asked.path, asked.views) {
+    if let Some(pcap) = site_or_old(rt, asked) {
         return refuse_twice(pcap, out, errors);
     }
     let Some(ReadSite { site, sum }) = site_of(rt, asked.path, out, errors)? else {
@@ -237,8 +271,7 @@ where
         let book = Book::new(alloc, site)?;
         return live_viewed(rt, book, asked, &mut reader, out, errors);
     };
-    let found = open_journal(rt, asked_of(journal), site, sum, out, errors);
-    let Some(opened) = lab_result(found)? else {
+    let Some(opened) = opened_journal(rt, journal, site, sum, out, errors)? else {
         return Ok(Status::Refused);
     };
     live_journaled(rt, opened, asked, journal, sum, &mut reader, out, errors)

@@ -126,7 +126,8 @@ the counts so far; bsc_lab help summary explains them.
 With --journal what came of each line is on disk before any of it is printed. When live is started
 again with the same folder, the controller goes on with its calls and with the numbers of its lines.
 Its windows of measurement reports are empty, and fill again. With --journal the line sim can't be
-read.
+read. If the site was changed, give --site-changed the file as it was before: the controller goes on
+if what each call has belongs to the same cell in both.
 
 Statuses: 0 standard input has ended, 2 the file, the site or the journal is refused, standard input
 can't be read, or the output or the journal can't be written, 3 memory was refused.

@@ -22,9 +22,11 @@ pub struct JournalWords<'a> {
     pub heard: Option<u64>,
     /// What the controller does once the journal can't be written any more.
     pub when_lost: WhenLost,
+    /// The path of the site's file as it was when the journal was written, if the site has changed since.
+    pub site_changed: Option<&'a str>,
 }
 
-/// `--history N`, `--journal FOLDER`, `--keep N`, `--heard M` and `--journal-lost WHAT`
+/// `--history N`, `--journal FOLDER`, `--keep N`, `--heard M`, `--journal-lost WHAT` and `--site-changed OLD`
 const OPTIONS: &[ArgumentRow] = &[
     ArgumentRow {
         name: "HISTORY",
@@ -56,6 +58,12 @@ const OPTIONS: &[ArgumentRow] = &[
         help: "If the journal is lost (default: end)",
         rules: &[Rule::Wants("JOURNAL")],
     },
+    ArgumentRow {
+        name: "CHANGED",
+        form: Form::Valued("site-changed", "OLD", TEXT),
+        help: "Goes on from a journal of this site's file, which has changed since",
+        rules: &[Rule::Wants("JOURNAL")],
+    },
 ];
 
 /// Adds to a command these options.
@@ -84,5 +92,6 @@ pub(crate) fn journal_of<'a>(matches: &ArgMatches<'a>) -> Option<JournalWords<'a
         keep: matches.get_one::<usize>("KEEP"),
         heard: matches.get_one::<u64>("HEARD"),
         when_lost,
+        site_changed: matches.get_str("CHANGED"),
     })
 }

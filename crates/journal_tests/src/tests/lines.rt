@@ -37,7 +37,7 @@ ba = [60]
 trx = [{ arfcn = 871, tch = [3] }]
 ";
 
-const HERE: ChanId = ChanId {
+pub(super) const HERE: ChanId = ChanId {
     cell: 0,
     trx: 0,
     tn: 3,
@@ -72,9 +72,43 @@ const EVENTS: [Event; 17] = [
     Event::Released(THERE),
 ];
 
+/// The site that has the two cells the other way round.
+const SWAPPED: &str = "[handover]
+window = 2
+margin = 3
+minimum = 10
+[[cell]]
+lac = 23
+ci = 101
+bcch = 871
+ncc = 2
+bcc = 5
+power = 5
+ba = [60]
+trx = [{ arfcn = 871, tch = [3] }]
+[[cell]]
+lac = 23
+ci = 100
+bcch = 60
+ncc = 1
+bcc = 1
+power = 5
+ba = [871]
+trx = [{ arfcn = 60, tch = [3] }]
+";
+
+fn site_of(alloc: Global, text: &str) -> Result<Arc<Site>, Fail> {
+    Ok(Arc::new(alloc, Site::read(alloc, alloc, text)?)?)
+}
+
 /// The site of the books.
 pub(super) fn fresh_site(alloc: Global) -> Result<Arc<Site>, Fail> {
-    Ok(Arc::new(alloc, Site::read(alloc, alloc, SITE)?)?)
+    site_of(alloc, SITE)
+}
+
+/// The site with its cells swapped.
+pub(super) fn swapped_site(alloc: Global) -> Result<Arc<Site>, Fail> {
+    site_of(alloc, SWAPPED)
 }
 
 /// The event of the line behind so many.

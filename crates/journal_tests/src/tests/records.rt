@@ -11,7 +11,7 @@ use std::sync::Arc;
 use std::test::Fail;
 
 /// A file that begins behind line 7, with a call that moves, and the records of two lines.
-fn file(alloc: Global, site: &Arc<Site>) -> Result<Vec<u8>, Fail> {
+pub(super) fn file(alloc: Global, site: &Arc<Site>) -> Result<Vec<u8>, Fail> {
     let mut book = book_after(alloc, site, 5)?;
     let head = head_body(alloc, SITE_SUM, &book)?;
     let mut octets = Vec::new(alloc);

@@ -2,7 +2,7 @@ use Rattle.std.proofs.Common.{sym, subst}
 use Rattle.journal_resume.specs.Resume.{IsJournal}
 use Rattle.journal_resume.proofs.Steps.{left_of_journal}
 use Rattle.journal_opening.proofs.Cuts.{cut_is_told}
-use Rattle.journal_opening.proofs.found.found_changed.Goals as goal
+use Rattle.journal_opening.proofs.differing.found_changed.Goals as goal
 
 pub returns-clause-journal : goal.returns-clause-journal
 returns-clause-journal g c =
