@@ -1,6 +1,8 @@
 -- Where the channels of calls are alike, so are their references.
-use Rattle.std.proofs.Common.{◌≡◌, ◌<◌, ℕ, length, slice_get, Option, Some, None, refl, sym, ◌∙◌, subst}
+use Rattle.std.proofs.Common.{◌≡◌, ◌<◌, ◌+◌, ◌==◌, ℕ, length, slice_get, Option, Some, None, refl, sym, ◌∙◌, subst, arith}
 use Rattle.std.specs.FinMap as map
+use Rattle.std.proofs.lemmas.Bool.{cases_Bool}
+use Rattle.std.proofs.lemmas.Bool.Decides.{nat_tests}
 use Rattle.std.proofs.lemmas.Option.{same_Some}
 use Rattle.channel_fsm.specs.declared.ChanId.{ChanId}
 use Rattle.dense_tables.specs.declared.references.Reference.{Reference}
@@ -50,3 +52,13 @@ all_alike old b sound is_site each = record { channels = alike; references = kno
 
     known : (k : Reference) (call : ℕ) → map.get b.references k ≡ Some call → IsSameCell old b.site k.cell
     known k call used = let (r, there, held) = sound.user_has_reference k call used in by_attempt call r k r.attempt there refl held
+
+-- one place more
+pub next_alike : (old : SiteView) (b : State) (place : ℕ) → ((k : ℕ) (x : ChanId) → k < place → slice_get (channels b.site) k ≡ Some x → IsAlikeAt old b x)
+    → ((x : ChanId) → slice_get (channels b.site) place ≡ Some x → IsAlikeAt old b x)
+    → (k : ℕ) (x : ChanId) → k < place + 1 → slice_get (channels b.site) k ≡ Some x → IsAlikeAt old b x
+next_alike old b place before here k x below at =
+    elim (cases_Bool (k == place)) [
+      | inl same ↦ let is : k ≡ place = grind (arith, nat_tests) in here x (subst (λ n. slice_get (channels b.site) n ≡ Some x) is at)
+      | inr other ↦ let less : k < place = grind (arith, nat_tests) in before k x less at
+    ]

@@ -20,18 +20,17 @@ pub struct Difference {
     pub chan: ChanId,
 }
 
-/// How a channel differs, if a call has it and it isn't the same in both sites.
+/// How a channel differs, if a call has it and it isn't the same in the old site and in that of the book.
 fn difference_at<A: Allocator + Copy>(
     old: &Site<A>,
-    site: &Site<A>,
     book: &Book<A>,
     chan: ChanId,
 ) -> Option<Difference>
-    ensures none { site.now ≡ book.now.site → IfNone result (spec.IsAlikeAt old.now book.now chan) }
-    ensures some { site.now ≡ book.now.site → IfSome result (λ d. spec.Differs old.now book.now d) }
+    ensures none { IfNone result (spec.IsAlikeAt old.now book.now chan) }
+    ensures some { IfSome result (λ d. spec.Differs old.now book.now d) }
 {
     let call = book.owner(chan)?;
-    if belongs_alike(old, site, chan) {
+    if belongs_alike(old, book.site(), chan) {
         None
     } else {
         Some(Difference { call, chan })
@@ -41,16 +40,15 @@ fn difference_at<A: Allocator + Copy>(
 /// How the channel differs that has a place among the traffic channels of the book's site.
 fn difference_of_place<A: Allocator + Copy>(
     old: &Site<A>,
-    site: &Site<A>,
     book: &Book<A>,
     place: usize,
 ) -> Option<Difference>
-    ensures none { site.now ≡ book.now.site → IfNone result ((x : ChanId) →
+    ensures none { IfNone result ((x : ChanId) →
         slice_get (channels book.now.site) place ≡ Some x → spec.IsAlikeAt old.now book.now x) }
-    ensures some { site.now ≡ book.now.site → IfSome result (λ d. spec.Differs old.now book.now d) }
+    ensures some { IfSome result (λ d. spec.Differs old.now book.now d) }
 {
-    let chan = site.chan_at(place)?;
-    difference_at(old, site, book, chan)
+    let chan = book.site().chan_at(place)?;
+    difference_at(old, book, chan)
 }
 
 /// How many traffic channels the site of a book has. Its contract also says that every book and every site is sound.
@@ -70,8 +68,9 @@ pub fn first_difference<A: Allocator + Copy>(old: &Site<A>, book: &Book<A>) -> O
     ensures differs { IfSome result (λ d. spec.Differs old.now book.now d) }
 {
     for place in 0..places_of(book) {
-        if let Some(difference) = difference_of_place(old, book.site(), book, place) {
-            return Some(difference);
+        match difference_of_place(old, book, place) {
+            Some(difference) => return Some(difference),
+            None => {}
         }
     }
     None
