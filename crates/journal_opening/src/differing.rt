@@ -73,7 +73,10 @@ impl fmt::Display for Differing<'_> {
             site: self.site,
             chan,
         };
-        write!(f, "call {call} has channel {chan}, which was{old} and is{new}")
+        write!(
+            f,
+            "call {call} has channel {chan}, which was{old} and is{new}"
+        )
     }
 }
 
@@ -95,21 +98,22 @@ pub(crate) fn found_changed<E: Write>(
     ensures cut { IfOk result (λ found. IsTrue found.is_cut ↔ (drop found.whole octets.now ≢ [])) }
 {
     let told = site.clone()?;
-    let Resumed { book, last, left } =
-        match resume_changed(alloc, old, old_sum, site, number, octets) {
-            Ok(resumed) => resumed,
-            Err(ChangedFault::Refused(fault)) => {
-                return Err(refuse_octets(path, octets, fault, errors));
-            }
-            Err(ChangedFault::Differs(difference)) => {
-                let differing = Differing {
-                    old,
-                    site: &told,
-                    difference,
-                };
-                return Err(refuse(path, differing, errors));
-            }
-        };
+    let Resumed { book, last, left } = match resume_changed(
+        alloc, old, old_sum, site, number, octets,
+    ) {
+        Ok(resumed) => resumed,
+        Err(ChangedFault::Refused(fault)) => {
+            return Err(refuse_octets(path, octets, fault, errors));
+        }
+        Err(ChangedFault::Differs(difference)) => {
+            let differing = Differing {
+                old,
+                site: &told,
+                difference,
+            };
+            return Err(refuse(path, differing, errors));
+        }
+    };
     Ok(Found {
         book,
         last,

@@ -36,7 +36,11 @@ pub struct Asked<'a> {
 }
 
 /// Tells which files of the folder aren't the journal's.
-pub(crate) fn say_others<E: Write>(path: &str, listing: &Listing, errors: &mut E) -> Result<(), OpenFault> {
+pub(crate) fn say_others<E: Write>(
+    path: &str,
+    listing: &Listing,
+    errors: &mut E,
+) -> Result<(), OpenFault> {
     for name in &listing.others {
         writeln!(
             errors,
@@ -50,7 +54,11 @@ pub(crate) fn say_others<E: Write>(path: &str, listing: &Listing, errors: &mut E
 }
 
 /// Tells that the name of a folder in which a journal begins may not be on the disk, if it isn't known to be.
-pub(crate) fn say_unsynced<E: Write>(path: &str, is_named: bool, errors: &mut E) -> Result<(), OpenFault> {
+pub(crate) fn say_unsynced<E: Write>(
+    path: &str,
+    is_named: bool,
+    errors: &mut E,
+) -> Result<(), OpenFault> {
     if is_named {
         return Ok(());
     }

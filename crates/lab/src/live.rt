@@ -226,9 +226,7 @@ where
     let Some(old) = site_of(rt, path, out, errors)? else {
         return Ok(None);
     };
-    lab_result(open_changed_journal(
-        rt, asked, &old.site, old.sum, site, sum, out, errors,
-    ))
+    lab_result(open_changed_journal(rt, asked, &old.site, old.sum, site, sum, out, errors))
 }
 
 /// Runs a controller over the site of a file. It handles the lines of `input` as they come, and prints the trace to `out`,

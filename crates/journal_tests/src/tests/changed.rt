@@ -40,11 +40,7 @@ fn a_channel_of_a_call_differs(rt: HostRuntime) -> Result<(), Fail> {
 }
 
 /// Why a file that was written over a site isn't gone on with over another one.
-fn fault_of(
-    alloc: Global,
-    old_sum: u32,
-    site: &Arc<Site>,
-) -> Result<Option<ChangedFault>, Fail> {
+fn fault_of(alloc: Global, old_sum: u32, site: &Arc<Site>) -> Result<Option<ChangedFault>, Fail> {
     let old = fresh_site(alloc)?;
     let octets = file(alloc, &old)?;
     Ok(resume_changed(alloc, &old, old_sum, site.clone()?, 5, &octets).err())
@@ -101,10 +97,16 @@ fn a_journal_becomes_one_of_the_new_site(rt: HostRuntime) -> Result<(), Fail> {
     let swapped = swapped_site(alloc)?;
     assert_eq!(rt; last_over(&host, SITE_SUM, &swapped, NEW_SUM)?, None);
     assert_eq!(rt; last_of(&host, &scene.site)?, Some(LINES));
-    assert_eq!(rt; last_over(&host, SITE_SUM, &scene.site, NEW_SUM)?, Some(LINES));
+    assert_eq!(rt;
+        last_over(&host, SITE_SUM, &scene.site, NEW_SUM)?,
+        Some(LINES)
+    );
     assert_eq!(rt; last_of(&host, &scene.site)?, None);
     // back again, in the place of the file that begins behind the same line
-    assert_eq!(rt; last_over(&host, NEW_SUM, &scene.site, SITE_SUM)?, Some(LINES));
+    assert_eq!(rt;
+        last_over(&host, NEW_SUM, &scene.site, SITE_SUM)?,
+        Some(LINES)
+    );
     assert_eq!(rt; last_of(&host, &scene.site)?, Some(LINES));
     Ok(())
 }
