@@ -35,6 +35,35 @@ What was kept before is written over. What else is printed stays the same.
   [1]
   $ cmp run.trace kept/here/town-wrong.trace
 
+Scripts whose paths give the same name have a number behind it, from the second on.
+
+  $ cp town/wrong.txt town-wrong.txt
+  $ ./lab test examples/two_cells.toml town/wrong.txt town/right.txt town-wrong.txt ./town/wrong.txt --keep kept/same 2>/dev/null | grep ok
+  not ok 1 - town/wrong.txt
+  ok 2 - town/right.txt
+  not ok 3 - town-wrong.txt
+  not ok 4 - ./town/wrong.txt
+  $ ls kept/same
+  town-wrong-2.pcap
+  town-wrong-2.svg
+  town-wrong-2.trace
+  town-wrong-3.pcap
+  town-wrong-3.svg
+  town-wrong-3.trace
+  town-wrong.pcap
+  town-wrong.svg
+  town-wrong.trace
+
+A script that isn't met before a line whose name stands for nothing is kept, too.
+
+  $ printf 'open 1 0 0 3\n#> event open 2 $channel -> done\n#> ..\nopen 2 $channel\n' >unmet.txt
+  $ ./lab test examples/two_cells.toml unmet.txt --keep kept/unmet 2>/dev/null | grep ok
+  not ok 1 - unmet.txt
+  $ ls kept/unmet
+  unmet.pcap
+  unmet.svg
+  unmet.trace
+
 A folder that can't be made is refused, and no script is run. Where a file can't be written, its script is refused.
 
   $ ./lab test examples/two_cells.toml town/wrong.txt --keep town/right.txt 2>/dev/null

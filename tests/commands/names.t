@@ -127,20 +127,106 @@ it are tested.
   # expected: event open 2 * -> done
   # came: event open 1 0/0/3 -> done
   # line 5 can't be read
-  [2]
+  [1]
   $ cat errors
   unmet.txt:5: $channel stands for nothing: line 2 isn't met
 
-Where nothing comes a name that stands for nothing yet is any word.
+A misspelt name in a line is told with the nearest that there is.
+
+  $ printf 'open 1 0 0 3\n#> event open 1 $channel -> done\n#> ..\nopen 2 $chanel\n#> event open 2 $channel -> *\n' >input.txt
+  $ ./lab test examples/two_cells.toml input.txt
+  input.txt:4: $chanel stands for nothing: no comment before the line expects it; the nearest name is $channel
+  1..1
+  not ok 1 - input.txt
+  # line 4 can't be read
+  [2]
+
+Behind `#!` a name has to stand for something: a comment before it expects it.
 
   $ printf 'open 1 0 0 3\n#! event open 1 $channel\n' >none.txt
-  $ ./lab test examples/two_cells.toml none.txt
+  $ ./lab test examples/two_cells.toml none.txt 2>/dev/null
   1..1
   not ok 1 - none.txt
   # line 2
-  # expected no line that begins with: event open 1 *
-  # came: event open 1 0/0/3 -> done
+  # expected no line that begins with: event open 1 $channel
+  # came: $channel stands for nothing: no comment before the line expects it
   [1]
+  $ cat >absent.txt <<'END'
+  > open 1 0 0 3
+  > #> event open 1 $channel -> done
+  > #> ..
+  > clear 1
+  > #! event confirm $chanel
+  > #! event released $channel
+  > END
+  $ ./lab test examples/two_cells.toml absent.txt 2>errors
+  1..1
+  not ok 1 - absent.txt
+  # line 5
+  # expected no line that begins with: event confirm $chanel
+  # came: $chanel stands for nothing: no comment before the line expects it; the nearest name is $channel
+  [1]
+  $ cat errors
+  absent.txt:5: $chanel stands for nothing: no comment before the line expects it; the nearest name is $channel
+
+What is expected with a name that stands nowhere else is met by anything. If that is nearly another name, it is misspelt. Else it is
+said on standard error alone.
+
+  $ cat >misspelt.txt <<'END'
+  > sim
+  > open 1 0 0 3
+  > handover 1 1
+  > #> ..
+  > #> event take 1 internal $target -> done
+  > #> ..
+  > #> event confirm $tagret -> owned 1
+  > #> ..
+  > #= call 1 $target
+  > END
+  $ ./lab test examples/two_cells.toml misspelt.txt 2>errors
+  1..1
+  not ok 1 - misspelt.txt
+  # line 7
+  # expected: event confirm $tagret -> owned 1
+  # came: $tagret stands nowhere else; the nearest name is $target
+  [1]
+  $ cat errors
+  misspelt.txt:7: $tagret stands nowhere else; the nearest name is $target
+  $ sed 's/tagret/target/; s/call 1 $target/call 1 $targt/' misspelt.txt >held.txt
+  $ ./lab test examples/two_cells.toml held.txt 2>/dev/null
+  1..1
+  not ok 1 - held.txt
+  # line 9
+  # expected: call 1 $targt
+  # came: $targt stands nowhere else; the nearest name is $target
+  [1]
+  $ sed 's/internal $target/internal $targex/; s/tagret/target/' misspelt.txt >defined.txt
+  $ ./lab test examples/two_cells.toml defined.txt 2>/dev/null
+  1..1
+  not ok 1 - defined.txt
+  # line 5
+  # expected: event take 1 internal $targex -> done
+  # came: $targex stands nowhere else; the nearest name is $target
+  [1]
+  $ printf 'open 1 0 0 3\n#> event open 1 $channel -> done\n#> ..\n' >lone.txt
+  $ ./lab test examples/two_cells.toml lone.txt
+  lone.txt:2: $channel stands nowhere else: * says the same
+  1..1
+  ok 1 - lone.txt
+
+Names that differ in a number alone are two, and so are short ones.
+
+  $ cat >numbers.txt <<'END'
+  > open 1 0 0 3
+  > #> event open 1 $channel1 -> done
+  > #> ..
+  > open 2 0 0 2
+  > #> event open 2 $channel2 -> done
+  > #> out abis $a $b CHANNEL ACTIVATION tn=2
+  > END
+  $ ./lab test examples/two_cells.toml numbers.txt 2>/dev/null
+  1..1
+  ok 1 - numbers.txt
 
 Attempts are taken back in the same script.
 

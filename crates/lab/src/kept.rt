@@ -2,6 +2,7 @@
 //!
 //! No clause says what the files hold: that is shown by tests.
 use crate::files::{ViewedRun, run_viewed, title_of};
+use crate::flaws::Numbered;
 use crate::site_files::SiteTexts;
 use run_listeners::LabFault;
 use screen_text::{Escaped, Reason};
@@ -21,6 +22,48 @@ fn kept_name(alloc: Global, path: &str) -> Result<String, AllocError> {
         name.push(if character == '/' { '-' } else { character })?;
     }
     Ok(name)
+}
+
+/// Where scripts are kept that aren't met: in a folder, by the paths of all that are tested.
+#[derive(Clone, Copy)]
+pub(crate) struct Kept<'a> {
+    pub folder: &'a str,
+    pub scripts: &'a [&'a str],
+}
+
+/// Whether a name is among some.
+fn is_among(names: &[String], name: &str) -> bool {
+    names.iter().any(|other| other.as_str() == name)
+}
+
+/// A name that is none of some: with a number behind it, where it is one of them.
+fn unused(alloc: Global, name: String, names: &[String]) -> Result<String, AllocError> {
+    if !is_among(names, &name) {
+        return Ok(name);
+    }
+    let mut number = 2_usize;
+    // the name itself is one of these, so one number at least isn't used
+    for _ in names {
+        let numbered = format!(in alloc; "{name}-{number}")?;
+        if !is_among(names, &numbered) {
+            return Ok(numbered);
+        }
+        number = number.saturating_add(1);
+    }
+    Ok(name)
+}
+
+impl Kept<'_> {
+    /// The name under which the script of this number is kept: another than those of the scripts before it.
+    fn name_of(self, alloc: Global, number: usize) -> Result<String, AllocError> {
+        let mut names = Vec::new(alloc);
+        let mut last = String::new(alloc);
+        for path in self.scripts.iter().take(number) {
+            last = unused(alloc, kept_name(alloc, *path)?, &names)?;
+            names.push(last.clone()?)?;
+        }
+        Ok(last)
+    }
 }
 
 /// Whether something was done to a file, or a folder; where not, `errors` says why.
@@ -45,18 +88,19 @@ pub(crate) fn is_folder_there<R: Files + AllocGlobal, E: Write>(
     is_done(folder, fs::create_dir_all(rt, folder), errors)
 }
 
-/// Keeps what comes of the script of a path over sites that can be run over, in the files of a folder: its trace, as `run` prints
+/// Keeps what comes of the script of a test over sites that can be run over, in the files of a folder: its trace, as `run` prints
 /// it, its chart and its capture. Answers whether they could be written; where not `errors` says why.
 pub(crate) fn keep_run<R: Files + AllocGlobal, E: Write>(
     rt: &R,
-    folder: &str,
-    path: &str,
+    kept: Kept<'_>,
+    test: Numbered<'_>,
     sites: &SiteTexts,
     script: &str,
     errors: &mut E,
 ) -> Result<bool, LabFault> {
     let alloc = rt.alloc();
-    let name = kept_name(alloc, path)?;
+    let folder = kept.folder;
+    let name = kept.name_of(alloc, test.number)?;
     let trace = format!(in alloc; "{folder}/{name}.trace")?;
     let chart = format!(in alloc; "{folder}/{name}.svg")?;
     let pcap = format!(in alloc; "{folder}/{name}.pcap")?;
@@ -70,7 +114,7 @@ pub(crate) fn keep_run<R: Files + AllocGlobal, E: Write>(
         ..Views::plain()
     };
     let mut printed = Vec::new(alloc);
-    let title = title_of(alloc, path, sites)?;
+    let title = title_of(alloc, test.name, sites)?;
     let run = ViewedRun {
         title: title.as_str(),
         sites,

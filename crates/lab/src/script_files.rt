@@ -1,11 +1,12 @@
 //! Tests and records of scripts in files.
 use crate::files::text_of;
-use crate::flaws::{Marks, Numbered, say_flaws, test_flawed};
+use crate::flaws::{Marks, Numbered, UnreadLine, say_flaws, say_marks, test_flawed};
 use crate::junit::Report;
-use crate::kept::{is_folder_there, keep_run};
+use crate::kept::{Kept, is_folder_there, keep_run};
+use crate::octet_causes::with_decimal_causes;
 use crate::run_reason::{Naming, say_cut_script, say_line, say_refusal};
 use crate::script_names::{say_names, without_names};
-use crate::script_notes::{say_idle_settings, say_slipped};
+use crate::script_notes::say_idle_settings;
 use crate::script_sites::{
     GivenSites, ScriptSites, fault_of, say_other_sites, sites_named_by, sites_of_script,
 };
@@ -36,29 +37,35 @@ pub(crate) fn worse(one: Status, other: Status) -> Status {
     }
 }
 
-/// What is asked of tests: the sites that are given for their scripts, and the folder in which those are kept that aren't met.
+/// What is asked of tests: the sites that are given for their scripts, and where those are kept that aren't met.
 #[derive(Drop)]
 struct AskedTests<'a> {
     given: GivenSites<'a>,
-    kept: Option<&'a str>,
+    kept: Option<Kept<'a>>,
 }
 
-/// A script that is tested: its text, who names its sites, and which of its comments have slipped.
+/// A script that is tested: its text, who names its sites, and what is known of its lines.
 #[derive(Drop)]
 struct TestedScript<'a> {
     text: &'a str,
     naming: Naming,
-    slipped: Vec<usize>,
+    marks: Marks<'a>,
 }
 
 /// The text of a script that is tested: with values in the place of its names, up to the line that can't be read because of one; and
-/// the number of that line.
-fn tested_of<'a>(named: Option<&'a Named>, script: &'a str) -> (&'a str, Option<usize>) {
+/// that line.
+fn tested_of<'a>(named: Option<&'a Named>, script: &'a str) -> (&'a str, Option<UnreadLine>) {
     let Some(named) = named else {
         return (script, None);
     };
     match &named.unnamed {
-        Some(unnamed) => (unnamed.front.as_str(), Some(unnamed.line)),
+        Some(unnamed) => {
+            let line = UnreadLine {
+                number: unnamed.line,
+                is_unmet: unnamed.expected.is_some(),
+            };
+            (unnamed.front.as_str(), Some(line))
+        }
         None => (named.text.as_str(), None),
     }
 }
@@ -68,7 +75,7 @@ fn test_over<R: Files + AllocGlobal, W: Write, E: Write>(
     rt: &R,
     sites: &SiteTexts,
     script: TestedScript<'_>,
-    kept: Option<&str>,
+    kept: Option<Kept<'_>>,
     test: Numbered<'_>,
     out: &mut W,
     errors: &mut E,
@@ -77,21 +84,23 @@ fn test_over<R: Files + AllocGlobal, W: Write, E: Write>(
     let TestedScript {
         text,
         naming,
-        slipped,
+        mut marks,
     } = script;
     let has_peer = sites.peer().is_some();
-    let named = say_names(alloc, test.name, sites, text, errors)?;
-    let (text, unread) = tested_of(named.as_ref(), text);
-    let marks = Marks { slipped, unread };
-    let flaws = say_flaws(alloc, test.name, sites, text, marks, errors)?;
-    let status = test_flawed(alloc, sites, text, test, &flaws, out)?;
+    // before names are found: what a comment expects beside a name has its causes in decimal then, as the messages that come
+    let text = with_decimal_causes(alloc, text)?;
+    let named = say_names(alloc, test.name, sites, &text, errors)?;
+    let (tested, unread) = tested_of(named.as_ref(), &text);
+    marks.unread = unread;
+    let flaws = say_flaws(alloc, test.name, sites, tested, marks, errors)?;
+    let status = test_flawed(alloc, sites, tested, test, &flaws, out)?;
     if status == Status::Refused {
         // the sites were read before
-        say_line(alloc, test.name, text, has_peer, naming, errors)?;
+        say_line(alloc, test.name, tested, has_peer, naming, errors)?;
     }
     if status == Status::Differs
-        && let Some(folder) = kept
-        && !keep_run(rt, folder, test.name, sites, text, errors)?
+        && let Some(kept) = kept
+        && !keep_run(rt, kept, test, sites, tested, errors)?
     {
         return Ok(Status::Refused);
     }
@@ -112,14 +121,14 @@ fn test_file<R: Files + AllocGlobal, W: Write, E: Write>(
         return Ok(Status::Refused);
     };
     say_cut_script(test.name, &script, errors)?;
-    let slipped = say_slipped(alloc, test.name, &script, errors)?;
+    let marks = say_marks(alloc, test.name, &script, errors)?;
     let text = script.as_str();
     match sites_of_script(rt, &asked.given, test.name, text, errors)? {
         ScriptSites::Given(texts) => {
             let script = TestedScript {
                 text,
                 naming: Naming::Given,
-                slipped,
+                marks,
             };
             test_over(rt, texts, script, asked.kept, test, out, errors)
         }
@@ -127,7 +136,7 @@ fn test_file<R: Files + AllocGlobal, W: Write, E: Write>(
             let script = TestedScript {
                 text,
                 naming: Naming::InScript,
-                slipped,
+                marks,
             };
             test_over(rt, &texts, script, asked.kept, test, out, errors)
         }
@@ -246,6 +255,7 @@ fn test_given<R: Files + AllocGlobal, W: Write, E: Write>(
         writeln!(out, "file {}", Escaped(folder))?;
         return Ok(Status::Refused);
     }
+    let kept = kept.map(|folder| Kept { folder, scripts });
     let asked = AskedTests { given, kept };
     test_all(rt, &asked, scripts, report, out, errors)
 }

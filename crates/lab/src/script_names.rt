@@ -1,15 +1,22 @@
 //! The names of a script, for which values are found out.
 //!
 //! No clause says which: that is shown by tests.
+use crate::name_flaws::nearest_of;
 use crate::site_files::SiteTexts;
 use run_listeners::LabFault;
 use screen_text::Escaped;
 use std::alloc::Global;
 use std::io::{self, Write};
-use tested_scripts::{Named, Unnamed, named_script};
+use tested_scripts::{Named, Unnamed, lines_of, named_script};
 
-/// Says that a line of a script has a name that stands for nothing.
-fn say_unnamed<E: Write>(path: &str, unnamed: &Unnamed, errors: &mut E) -> io::Result<()> {
+/// Says that a line of a script has a name that stands for nothing, and which name is the nearest, of those that comments before the
+/// line expect something with.
+fn say_unnamed<E: Write>(
+    path: &str,
+    unnamed: &Unnamed,
+    nearest: Option<&str>,
+    errors: &mut E,
+) -> io::Result<()> {
     let Unnamed {
         line,
         name,
@@ -17,12 +24,16 @@ fn say_unnamed<E: Write>(path: &str, unnamed: &Unnamed, errors: &mut E) -> io::R
         front: _,
     } = unnamed;
     let path = Escaped(path);
-    match expected {
-        Some(expected) => writeln!(
+    match (expected, nearest) {
+        (Some(expected), _) => writeln!(
             errors,
             "{path}:{line}: ${name} stands for nothing: line {expected} isn't met"
         ),
-        None => writeln!(
+        (None, Some(nearest)) => writeln!(
+            errors,
+            "{path}:{line}: ${name} stands for nothing: no comment before the line expects it; the nearest name is ${nearest}"
+        ),
+        (None, None) => writeln!(
             errors,
             "{path}:{line}: ${name} stands for nothing: no comment before the line expects it"
         ),
@@ -45,7 +56,10 @@ pub(crate) fn say_names<E: Write>(
         },
     ) = &named
     {
-        say_unnamed(path, unnamed, errors)?;
+        let lines = lines_of(alloc, script)?;
+        let (before, _) = lines.split_at(unnamed.line.min(lines.len()));
+        let nearest = nearest_of(before, unnamed.name.as_str());
+        say_unnamed(path, unnamed, nearest, errors)?;
     }
     Ok(named)
 }

@@ -4,7 +4,8 @@
 //! No clause says what the lines hold: tests show it.
 use crate::absences::{expects_a_line, is_meant};
 use crate::site_files::SiteTexts;
-use expectations::{is_slipped, names_no_site};
+use crate::slips::{is_idle_mark, is_slip};
+use expectations::names_no_site;
 use idle_settings::{Cause, Found, Idle, Taken, Texts, idle_settings};
 use lab_runs::run::read_sites;
 use lab_script::script::without_return;
@@ -22,13 +23,15 @@ fn is_of_site(line: &str) -> bool {
     first == Some(b'%')
 }
 
-/// What is said of a comment that looks as if it said something to a test, but doesn't; nothing of another.
-fn slip_of(line: &str) -> Option<&'static str> {
-    if names_no_site(line) || (is_slipped(line) && is_of_site(line)) {
+/// What is said of a comment that looks as if it said something to a test, but doesn't, as `is_slip` says; nothing of another.
+fn slip_of(line: &str, is_slip: bool) -> Option<&'static str> {
+    if names_no_site(line) || (is_slip && is_of_site(line)) {
         Some(
             "this looks like the name of a site, but isn't one: write \"#% site PATH\", \"#% peer PATH\" or \"#% cells N full\"",
         )
-    } else if is_slipped(line) {
+    } else if is_slip && is_idle_mark(line) {
+        Some("this looks like \"#- idle\", but isn't")
+    } else if is_slip {
         Some("this looks like an expectation, but isn't one: write \"#> \", \"#! \" or \"#= \"")
     } else {
         None
@@ -47,10 +50,11 @@ pub(crate) fn say_slipped<E: Write>(
     for (place, line) in script.split('\n').enumerate() {
         let line = without_return(line);
         let number = place.saturating_add(1);
-        if let Some(slip) = slip_of(line) {
+        let is_slip = is_slip(alloc, line)?;
+        if let Some(slip) = slip_of(line, is_slip) {
             writeln!(errors, "{}:{number}: {slip}", Escaped(path))?;
         }
-        if is_slipped(line) {
+        if is_slip {
             slipped.push(number).map_err(AllocError::from)?;
         }
     }

@@ -33,8 +33,8 @@ to 7, with /0 or /1 at the end for half rate):
   mobile CALL HABIT           after sim: the same on the channel that the call has then
   double CELL TRX TN          after sim: the next answer about the channel comes twice
   cut CELL TRX TN N           after sim: the next answer is cut to N octets, 1 to 255
-  restart CELL                behind sim: the station of a cell restarts, and its channels fail
-  restart CELL TRX            behind sim: the same of one TRX
+  restart CELL                after sim: the station of a cell restarts, and its channels fail
+  restart CELL TRX            after sim: the same of one TRX
   hangup CALL                 after sim: the switching centre hangs up
   2: LINE                     with --peer: any of these lines but sim, for the second controller
   # TEXT                      a comment",

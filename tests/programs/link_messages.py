@@ -4,7 +4,7 @@ the site that is played: that of tests/two_cells.
 import re
 from pathlib import Path
 
-SITE = Path(__file__).resolve().parent / "two_cells" / "site.toml"
+SITE = Path(__file__).resolve().parents[1] / "two_cells" / "site.toml"
 # Its traffic channels, and its TRX.
 CHANNELS = ("0/0/2", "0/0/3", "1/1/3")
 TRX = ("0 0", "1 0", "1 1")

@@ -2,10 +2,10 @@
 """Stands in for a controller with its links (`bsc SITE`), until that program is there: the rows of docs/LINKS.md around a
 controller.
 
-    tests/link_stand_in.py [--controller LAB] [--wrong NAME] SITE
+    tests/programs/link_stand_in.py [--controller LAB] [--wrong NAME] SITE
 
 The controller is that of `link_controller`. With LAB, which is ./lab or a build of bsc_lab, it is the proved one. With
---wrong it goes wrong in one way; if there is no such NAME, it says which there are. tests/links and tests/random_links are
+--wrong it goes wrong in one way; if there is no such NAME, it says which there are. `links` and `random_links` beside this are
 tried against it. The SITE is that of tests/two_cells.
 """
 import subprocess

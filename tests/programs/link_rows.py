@@ -5,7 +5,7 @@ import re
 from dataclasses import dataclass
 from pathlib import Path
 
-TOP = Path(__file__).resolve().parents[1]
+TOP = Path(__file__).resolve().parents[2]
 PAGE = TOP / "docs" / "LINKS.md"
 SPECS = TOP / "crates" / "link_tables" / "specs"
 
