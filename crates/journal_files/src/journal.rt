@@ -210,6 +210,25 @@ impl<'a, R: Files + AllocGlobal> Journal<'a, R> {
         Ok(())
     }
 
+    /// Counts a line of which nothing is noted.
+    pub fn pass_over(&mut self)
+        ensures next { last_of self.new ≡ min (last_of self.old + 1) (2 ^ 64 - 1) }
+        ensures waiting { waiting_of self.new ≡ waiting_of self.old }
+        ensures octets { octets_of self.new ≡ octets_of self.old }
+        ensures files { SameFiles self.old self.new }
+    {
+        self.last = self.last.saturating_add(1);
+    }
+
+    /// Drops what waits.
+    pub fn drop_waiting(&mut self)
+        ensures none { waiting_of self.new ≡ [] }
+        ensures last { last_of self.new ≡ last_of self.old }
+        ensures files { SameFiles self.old self.new }
+    {
+        self.waiting.clear();
+    }
+
     /// Puts what waits on the disk. After an error nothing more may be written, because it isn't known how much is on the
     /// disk.
     pub fn put_down(&mut self) -> io::Result<()>

@@ -1,8 +1,9 @@
 //! A listener that notes what it hears in a journal, and passes it on to another listener.
-ghost use Rattle.std.specs.Prelude.{◌≡◌, ◌++◌, [], Err, Some, None, OnOk};
+ghost use Rattle.std.specs.Prelude.{◌≡◌, ◌≢◌, ◌+◌, ◌-◌, ◌^◌, ◌++◌, [], min, Err, Some, None, OnOk};
 ghost use Rattle.std.specs.Io.KnownBytes.{Appends};
 ghost use Rattle.journal_records.specs.Records.{record_text};
-ghost use Rattle.journal_files.specs.Journals.{file_of, last_of, waiting_of};
+ghost use Rattle.journal_files.specs.Journals.{begun, file_of, last_of, waiting_of, IsHanded};
+ghost use Rattle.journal_runs.specs.Again.{BeginsAgain};
 
 use cell_table::SiteFault;
 use exchange::Outbound;
@@ -88,13 +89,17 @@ impl<'a, L, R: Files + AllocGlobal> Journaled<'a, L, R> {
         (inner, lost, lacks_memory)
     }
 
-    /// Notes what came of a line, unless the journal is lost.
+    /// Notes what came of a line. If the journal is lost, the line is only counted.
     fn note_body(&mut self) -> Result<(), AllocError>
         ensures noted { OnOk result (self.old.lost ≡ None → waiting_of self.new.journal ≡
             waiting_of self.old.journal ++ record_text (last_of self.new.journal) self.old.body.items) }
+        ensures counted { OnOk result (last_of self.new.journal ≡ min (last_of self.old.journal + 1) (2 ^ 64 - 1)) }
     {
         match self.lost {
-            Some(_) => Ok(()),
+            Some(_) => {
+                self.journal.pass_over();
+                Ok(())
+            }
             None => self.journal.note(&self.body),
         }
     }
@@ -172,6 +177,70 @@ impl<'a, L, R: Files + AllocGlobal> Journaled<'a, L, R> {
             )?),
             Err(BeginFault::NotBegun(error)) => Ok(self.say_not_begun(error, errors)?),
             Err(BeginFault::Unknown(error)) => self.lose(Lost::File(error), errors),
+        }
+    }
+}
+
+impl<'a, L, R: Files + AllocGlobal> Journaled<'a, L, R> {
+    /// Says what came of the line that asks for a lost journal.
+    fn say<E: Write>(&self, what: &str, errors: &mut E) -> io::Result<()> {
+        writeln!(errors, "{}: {what}", Escaped(self.path))
+    }
+
+    /// Says why a lost journal isn't begun again.
+    fn say_still_lost<E: Write>(&self, error: io::Error, errors: &mut E) -> io::Result<()> {
+        writeln!(
+            errors,
+            "{}: {}; the journal is still lost",
+            Escaped(self.path),
+            Reason(&error)
+        )
+    }
+
+    /// Begins a lost journal again, with a head. What waited is dropped. Where it can't be begun, it is still lost.
+    fn begin_lost<E: Write>(&mut self, head: &str, errors: &mut E) -> Result<(), LabFault>
+        ensures file { OnOk result (self.old.lost ≢ None → self.new.lost ≡ None →
+            IsHanded R.File.contents (begun (last_of self.old.journal) head.now) (file_of self.new.journal)) }
+        ensures none { OnOk result (waiting_of self.new.journal ≡ []) }
+        ensures last { OnOk result (last_of self.new.journal ≡ last_of self.old.journal) }
+    {
+        self.journal.drop_waiting();
+        self.journal.count_anew();
+        match self.journal.begin_span(self.alloc, head.as_bytes()) {
+            Ok(None) => {
+                self.lost = None;
+                Ok(self.say("the journal begins again", errors)?)
+            }
+            Ok(Some(error)) => {
+                self.lost = None;
+                Ok(writeln!(
+                    errors,
+                    "{}: the journal begins again; {}; an old file isn't removed",
+                    Escaped(self.path),
+                    Reason(&error)
+                )?)
+            }
+            Err(BeginFault::NotBegun(error)) => Ok(self.say_still_lost(error, errors)?),
+            Err(BeginFault::Unknown(error)) => Ok(self.say_still_lost(error, errors)?),
+        }
+    }
+
+    /// Begins a lost journal again with a book: its new file has a head that leads to the book. What is noted from then on
+    /// stands behind that.
+    fn begin_again<E: Write>(&mut self, book: &Book<Global>, errors: &mut E) -> Result<(), LabFault>
+        ensures begins { OnOk result (self.old.lost ≢ None → self.new.lost ≡ None →
+            BeginsAgain R.File.contents self.old.site_sum (last_of self.new.journal) book.now (file_of self.new.journal)) }
+        ensures none { OnOk result (self.old.lost ≢ None → self.new.lost ≡ None → waiting_of self.new.journal ≡ []) }
+    {
+        match head_body(self.alloc, self.site_sum, book) {
+            Ok(head) => self.begin_lost(head.as_str(), errors),
+            Err(HeadFault::NoMemory) => Err(LabFault::NoMemory),
+            Err(HeadFault::Differs) => Ok(writeln!(
+                errors,
+                "{}: {}; the journal is still lost",
+                Escaped(self.path),
+                HeadFault::Differs
+            )?),
         }
     }
 }
@@ -270,5 +339,17 @@ impl<L: LiveListener<Global>, R: Files + AllocGlobal> LiveListener<Global> for J
 
     fn hear_summary(&mut self) -> Result<bool, LabFault> {
         self.inner.hear_summary()
+    }
+
+    fn hear_journal<E: Write>(
+        &mut self,
+        book: &Book<Global>,
+        errors: &mut E,
+    ) -> Result<bool, LabFault> {
+        match self.lost {
+            Some(_) => self.begin_again(book, errors)?,
+            None => self.say("the journal isn't lost", errors)?,
+        }
+        Ok(true)
     }
 }

@@ -132,18 +132,47 @@ fn tell_summary<A: Allocator + Copy, L: LiveListener<A>>(
     }
 }
 
+/// The line that asks for a lost journal to be begun again. It is none of a script, and changes nothing.
+const JOURNAL_LINE: &[u8] = b"journal";
+
+/// The line that asks for a lost journal to be begun again, with the carriage return that may end a line.
+const JOURNAL_LINE_WITH_RETURN: &[u8] = b"journal\r";
+
+/// Whether a line asks for a lost journal to be begun again.
+fn asks_journal(line: &[u8]) -> bool {
+    line == JOURNAL_LINE || line == JOURNAL_LINE_WITH_RETURN
+}
+
+/// Has a listener begin its lost journal again, where a line asks for it. The answer is whether the listener has a journal.
+fn begin_journal<A: Allocator + Copy, L: LiveListener<A>, E: Write>(
+    line: &[u8],
+    book: &Book<A>,
+    listener: &mut L,
+    errors: &mut E,
+) -> Result<bool, LiveFault> {
+    if asks_journal(line) {
+        Ok(listener.hear_journal(book, errors)?)
+    } else {
+        Ok(false)
+    }
+}
+
 /// Answers a line that is none of a script: what it asks for, or that it can't be read.
 fn answer_other<A: Allocator + Copy, L: LiveListener<A>, E: Write>(
+    live: &Live<A>,
     number: usize,
     line: &[u8],
-    has_sim: bool,
     listener: &mut L,
     errors: &mut E,
 ) -> Result<(), LiveFault> {
     if tell_summary(line, listener)? {
         return Ok(());
     }
-    refuse(number, line, has_sim, listener, errors)
+    let book = live.course.controllers.first_book();
+    if begin_journal(line, book, listener, errors)? {
+        return Ok(());
+    }
+    refuse(number, line, live.course.has_simulators(), listener, errors)
 }
 
 /// Says on `errors` why nothing came of a line that asked the book in vain.
@@ -179,7 +208,7 @@ fn take_or_answer<A: Allocator + Copy, L: LiveListener<A>, E: Write>(
         return refuse_simulators(number, listener, errors);
     }
     if !live.take(line, listener)? {
-        answer_other(number, line, live.course.has_simulators(), listener, errors)?;
+        answer_other(live, number, line, listener, errors)?;
     }
     say_unmet(number, listener, errors)
 }
@@ -306,7 +335,7 @@ fn run_to_end<A: Allocator + Copy, R: LineReader, L: LiveListener<A>, E: Write>(
 ///
 /// A line is read as in a script for one controller; the last line needs no line feed. A line that can't be read changes
 /// nothing: the listener is told its number, counted on from that of the first line, and `errors` the reason. The line
-/// `summary` asks the listener for its counts. If the rules allow no simulators, a line that attaches them can't be read.
+/// `summary` asks the listener for its counts, and the line `journal` for its lost journal to be begun again. If the rules allow no simulators, a line that attaches them can't be read.
 /// The listener is told when the reader has no other line yet. The desk begins anew after a line with which its history has
 /// as many entries as the rules say, or if the listener wants it; the listener is told. At the end of the reader the
 /// listener is told what the book holds. If the reader's octets are known, exactly what the readable lines give was handled,

@@ -40,6 +40,16 @@ pub trait LiveListener<A: Allocator + Copy>: Listener<A> {
     fn hear_summary(&mut self) -> Result<bool, LabFault> {
         Ok(false)
     }
+
+    /// A line asks for a lost journal to be begun again with this book. The answer is whether there is a journal; if so,
+    /// `errors` says what came of it.
+    fn hear_journal<E: Write>(
+        &mut self,
+        _book: &Book<A>,
+        _errors: &mut E,
+    ) -> Result<bool, LabFault> {
+        Ok(false)
+    }
 }
 
 /// A listener that prints the trace, and what is owed if memory is refused. It flushes after each line.
