@@ -1,5 +1,6 @@
 //! A controller with a journal over a disk of our own, which fails, or loses what wasn't synced, at each of its calls in turn; or
 //! is full, or its folder is moved.
+mod again;
 mod changed;
 mod cuts;
 mod disk;

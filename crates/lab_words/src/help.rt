@@ -127,7 +127,7 @@ With --journal what came of each line is on disk before any of it is printed. Wh
 again with the same folder, the controller goes on with its calls and with the numbers of its lines.
 Its windows of measurement reports are empty, and fill again. With --journal the line sim can't be
 read. If the site was changed, give --site-changed the file as it was before: the controller goes on
-if what each call has belongs to the same cell in both.
+if what each call has belongs to the same cell in both. The line journal begins a lost journal again.
 
 Statuses: 0 standard input has ended, 2 the file, the site or the journal is refused, standard input
 can't be read, or the output or the journal can't be written, 3 memory was refused.
