@@ -226,7 +226,7 @@ impl<'a, R: Files + AllocGlobal> Journal<'a, R> {
         ensures last { last_of self.new ≡ last_of self.old }
         ensures files { SameFiles self.old self.new }
     {
-        self.waiting.clear();
+        self.waiting.truncate(0);
     }
 
     /// Puts what waits on the disk. After an error nothing more may be written, because it isn't known how much is on the
