@@ -14,6 +14,7 @@ import reload
 import rsl
 from calls import OFF, ON, PENDING, Event
 from journal import Journal, JournalError
+from operators import Operator
 from page import keeps
 from reload import Reload
 from tell import Level, Since, say, shown
@@ -31,9 +32,29 @@ PAUSE, LONGEST_PAUSE = 0.1, 10.0
 LASTING = 60.0
 # How many lines it may print before it goes on, which answer nothing.
 MOST_EARLY = 1000
+# How often a controller that has lost its journal is asked to begin it again, in seconds; and how it answers that it has.
+ASKING, BEGUN = 10.0, b"journal begins "
 # What it says once it goes on; and where its journal is lost, and it goes on without one.
 RESUMED = re.compile(rb"resumed after line (\d+): .*")
 UNNOTED = re.compile(rb".*; the journal ends, and the controller goes on")
+
+
+@keeps("again")
+class AskingForJournal(Operator):
+    """Who asks the controller for its journal, which is lost: a line `journal`, of which nothing is noted."""
+
+    is_served = False
+
+    def __init__(self, again):
+        super().__init__(again.relay, "bridge, for the journal")
+        self.again = again
+
+    def hear(self, line):
+        """A line of the answer. A controller that doesn't know the question refuses it, and isn't asked again."""
+        if line.startswith(BEGUN):
+            self.again.notes_again(line)
+        elif not line.startswith(b"refused: "):
+            self.again.await_journal()
 
 
 class Upgrade:
@@ -139,6 +160,7 @@ class Again:
         self.begun_at, self.begun, self.early = time.monotonic(), self.relay.line, 0 if is_resuming else None
         self.watch.begin()
         self.notes = self.journal is not None
+        self.times.forget("journal")
         self.bridge.start_core(self.kept.given(self.command))
         if is_resuming:
             self.times.set("resume", LONGEST, self.is_too_slow)
@@ -146,6 +168,27 @@ class Again:
         elif not self.is_new:
             self.give_again()
         self.is_new = self.is_new and is_resuming
+
+    # A journal that is lost
+
+    def resume_times(self):
+        """Goes on with the times that another bridge has set."""
+        if self.times.was_set("journal"):
+            self.await_journal()
+
+    def await_journal(self):
+        """The controller is asked for its journal before long."""
+        self.times.set("journal", ASKING, self.ask_for_journal)
+
+    def ask_for_journal(self):
+        """Asks the controller whether it can begin its journal again."""
+        if self.relay.is_taking() and not self.relay.is_away and not self.bridge.is_ending:
+            self.relay.give(b"journal", AskingForJournal(self))
+
+    def notes_again(self, line):
+        """The controller notes what comes of lines again, in a new file."""
+        self.notes, self.lost_since = True, None
+        say(f"controller: {shown(line)}", Level.NOTICE)
 
     def is_too_slow(self):
         """It doesn't go on, or doesn't end, in time."""
@@ -157,6 +200,7 @@ class Again:
         if self.notes and UNNOTED.fullmatch(line):
             self.notes, self.lost_since = False, Since()
             say(f"controller: {shown(line)}", Level.ERROR)
+            self.await_journal()
             return True
         found = RESUMED.fullmatch(line)
         if not found or not self.times.is_set("resume"):

@@ -651,7 +651,32 @@ def leave_open(bridge, is_on):
     bridge.process.wait(LIMIT)
 
 
+def begun_again_with_room(start, room, program):
+    """The journal is lost, as on a full disk, and the controller goes on without. It is asked for it every few seconds, and begins it
+    again once there is room: then that one may be killed, and its call is there."""
+    figures = ("--figures", "figures", "--figures-every", "0.1")
+    core = (controller(room, program), "live", SITE, "--journal", "journal")
+    bridge = start(*OFTEN, *figures, core=core, abis=bridge_with(room, "again.ASKING", 0.5))
+    bridge.station(FIRST)
+    bridge.ask("open 1 0 0 3")
+    bridge.expect("record 0/0/3 on$")
+    (room / "journal" / "full").touch()
+    bridge.ask("clear 9")
+    bridge.said.expect("error: controller: .*; the journal ends, and the controller goes on$")
+    bridge.expect("^journal lost$", "^journal lost$")
+    must("gofnild_journal_up 0\n" in (room / "figures").read_text(), "the figures have a journal")
+    bridge.ask(f"upgrade {program}")
+    bridge.expect("^refused: upgrade .*: the controller has lost its journal, since ")
+    (room / "journal" / "full").unlink()
+    bridge.said.expect(r"notice: controller: journal begins behind line \d+$")
+    os.killpg(child(bridge), signal.SIGKILL)
+    bridge.said.expect("controller: resumed after line")
+    bridge.ask("clear 1")
+    bridge.expect("^event clear 1 -> done$", "^event released 0/0/3 -> done$")
+    bridge.end()
+
+
 KILLED = [killed_at(stage, around) for around in (CONTROLLER, REAL) for stage in STAGES]
 CHECKS = [*KILLED, really_killed, dies_each_time, a_slow_one, not_upgraded, upgraded, no_journal, another_journal]
 CHECKS += [asks_for_a_summary, begun_anew, killed_as_it_begins, full_disk, upgraded_while_it_hangs]
-CHECKS += [much_while_it_is_away, ends_while_it_is_away]
+CHECKS += [much_while_it_is_away, ends_while_it_is_away, begun_again_with_room]

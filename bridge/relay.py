@@ -46,7 +46,7 @@ SENT = re.compile(rb"out abis (\d+) (\d+) ([0-9a-f]+)")
 SENT_ON_A = re.compile(rb"out a (\d+) ([0-9a-f]+)")
 # The lines of a controller by which something is done, and lines by which nothing is.
 DOING = (b"in ", b"line ", b"event ", b"out ")
-KNOWN = (*DOING, b"none free ", b"fault ", b"summary ", b"end ", b"state ", b"decision ", b"sim limit")
+KNOWN = (*DOING, b"none free ", b"fault ", b"summary ", b"journal ", b"end ", b"state ", b"decision ", b"sim limit")
 # How the former are written, in front of their words. A newer controller may have other links, lines of operators and events.
 OCTETS, CHANNEL = "(?:[0-9a-f]{2})+", r"\d+/\d+/[0-7](?:/[01])?"
 MESSAGE = rf"(?:abis \d+ \d+ {OCTETS}|a \d+ {OCTETS}|(?!abis |a )[a-z]+ .*)"
@@ -154,6 +154,7 @@ class Relay:
                 self.run_reason(number)
         for it in (self.lost, self.endings, self.again.watch, self.notices, *self.links.all):
             it.resume()
+        self.again.resume_times()
         if self.log:
             self.log.resume()
 
@@ -262,7 +263,7 @@ class Relay:
             self.is_done = True
         elif not line.startswith(KNOWN):
             self.tell_stray(line)
-        if line.startswith((b"in ", b"line ")) or FIRST_OF_SUMMARY.match(line):
+        if line.startswith((b"in ", b"line ", b"journal ")) or FIRST_OF_SUMMARY.match(line):
             self.begin_answer(line)
         if line.startswith(NOTED):
             self.heard = (self.heard or 0) + 1

@@ -3,6 +3,8 @@
 
     bridge/test_controller.py PROGRAM live SITE --journal FOLDER [--site-changed OLD]
 
+While there is FOLDER/full nothing can be noted: the journal is lost, and it goes on without. By the line `journal` it begins a new file.
+
 PROGRAM is a build of bsc_lab. Each line is given to `PROGRAM live SITE`, and what came of it is noted in FOLDER before it
 is printed; so are the lines themselves, by which a new PROGRAM gets the book that the last one had. FOLDER/plan says, a
 line each, where the controller is killed: `N STAGE`, at line N: `given` (it isn't noted yet), `cut` (half of it is), `noted`
@@ -126,6 +128,8 @@ class Controller:
         known = self.lines.read_bytes().split(b"\n")[:-1] if self.lines.exists() else list(self.noted())
         self.live.told = len(known)
         answers = [self.live.answer(line) for line in known]
+        # the events of all lines; and whether the journal is lost, as where there is FOLDER/full
+        self.text, self.events, self.is_lost = text, [it for lines in answers for it in lines if it.startswith(b"event ")], False
         self.wait()
         if (it := Journal(folder).site()) != zlib.crc32(text):
             self.go_on_over(text, old and pathlib.Path(old).read_bytes(), it, answers)
@@ -191,8 +195,29 @@ class Controller:
         with self.journal.open("ab") as journal:
             journal.write(octets)
 
+    def begin_again(self):
+        """A new file begins behind the lines that were taken, where there is room; its head has the events up to there."""
+        self.live.count += 1
+        self.live.process.stdin.write(b"?\n?\n")
+        self.live.process.stdin.flush()
+        for _ in range(2):
+            self.live.process.stdout.readline()
+        if self.is_lost and not (self.folder / "full").exists():
+            self.is_lost = False
+            self.journal = self.folder / f"{self.live.count:020}.journal"
+            site = [b"site %d\n" % zlib.crc32(self.text)]
+            self.journal.write_bytes(b"gofnild journal 1\n" + record(self.live.count, [*site, *self.events]))
+            os.write(1, b"journal begins behind line %d\n" % self.live.count)
+        else:
+            os.write(1, b"journal lost\n" if self.is_lost else b"journal noted\n")
+        with self.lines.open("ab") as lines:
+            lines.write(b"?\n")
+
     def take(self, line):
         """Takes a line."""
+        if line == b"journal":
+            self.begin_again()
+            return
         stage = self.stages(self.live.count + 1)
         if stage == "given":
             self.kill()
@@ -207,7 +232,12 @@ class Controller:
             self.whole.unlink()
         with self.lines.open("ab") as lines:
             lines.write(line + b"\n")
-        self.note(noted)
+        self.events += [it for it in answer if it.startswith(b"event ")]
+        if not self.is_lost and (self.folder / "full").exists():
+            self.is_lost = True
+            os.write(2, b"journal: no room; the journal ends, and the controller goes on\n")
+        if not self.is_lost:
+            self.note(noted)
         if stage in HANGING:
             self.hang(stage)
             stage = None
