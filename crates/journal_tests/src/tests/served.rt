@@ -68,8 +68,9 @@ impl BufRead for Arriving<'_> {
 
 impl LineReader for Arriving<'_> {
     fn has_line(&self) -> bool {
+        // at the end no wait is told, so that the last lines wait until the run has ended
         let ends = self.left.iter().filter(|octet| **octet == b'\n');
-        ends.count() % TOGETHER != 0
+        self.left.is_empty() || ends.count() % TOGETHER != 0
     }
 }
 
