@@ -1,0 +1,5 @@
+pub mod Dtap
+pub mod Forms
+pub mod Heads
+pub mod Messages
+pub mod Texts
