@@ -243,3 +243,39 @@ own_said v h = let own = own_head v h in (written_says codec h.kind (kind_of v) 
 
 pub writable_of : (v : CentreMessage) → HasCanonical v → CanBeSaid v × (length (written_octets v) ≤ limit)
 writable_of v h = (can_be_said v (own_said v h), short_of v h)
+
+-- the octets of a message that has a canonical text are short enough for a length octet
+abbrev pub FieldsFit : CentreMessage → Type 0
+FieldsFit (Reset cause) = Unit {0}
+FieldsFit ResetAck = Unit {0}
+FieldsFit (Paging imsi tmsi cells needed) = (length imsi < 256) × IfSome tmsi (λ v. length v < 256) × (length cells < 256)
+FieldsFit (CipherModeCommand encryption response) = length encryption < 256
+FieldsFit ClassmarkRequest = Unit {0}
+FieldsFit (CommonId imsi) = length imsi < 256
+FieldsFit HandoverSucceeded = Unit {0}
+FieldsFit (CompleteLayer3 cell layer3 codecs) = (length cell < 256) × (length layer3 < 256) × IfSome codecs (λ v. length v < 256)
+FieldsFit (CipherModeComplete layer3 algorithm) = IfSome layer3 (λ v. length v < 256)
+FieldsFit (CipherModeReject cause) = Unit {0}
+FieldsFit (ClassmarkUpdate two three) = (length two < 256) × IfSome three (λ v. length v < 256)
+FieldsFit (SapiReject link cause) = Unit {0}
+
+by_elements : (v : CentreMessage) → AllByRecursion (Fits centre_forms) (elements_of v) → FieldsFit v
+by_elements (Reset cause) h = tt
+by_elements ResetAck h = tt
+by_elements (Paging imsi None cells needed) h = (h.0, tt, h.1.0)
+by_elements (Paging imsi (Some t) cells needed) h = (h.0, h.1.0, h.1.1.0)
+by_elements (CipherModeCommand encryption response) h = h.0
+by_elements ClassmarkRequest h = tt
+by_elements (CommonId imsi) h = h.0
+by_elements HandoverSucceeded h = tt
+by_elements (CompleteLayer3 cell layer3 None) h = (h.0, h.1.0, tt)
+by_elements (CompleteLayer3 cell layer3 (Some v)) h = (h.0, h.1.0, h.1.1.0)
+by_elements (CipherModeComplete None algorithm) h = tt
+by_elements (CipherModeComplete (Some v) algorithm) h = h.0
+by_elements (CipherModeReject cause) h = tt
+by_elements (ClassmarkUpdate two None) h = (h.0, tt)
+by_elements (ClassmarkUpdate two (Some v)) h = (h.0, h.1.0)
+by_elements (SapiReject link cause) h = tt
+
+pub fields_fit : (v : CentreMessage) → HasCanonical v → FieldsFit v
+fields_fit v h = by_elements v (each_fits v (short_of v h))

@@ -2,6 +2,7 @@
 //! printed. What octets say, and which are no message, `tests/commands` shows.
 mod a;
 mod abis;
+mod centre;
 mod elements;
 mod printed;
 mod radio;
@@ -39,9 +40,11 @@ enum Link {
     Rr,
     A,
     Abis,
+    Centre,
+    Dtap,
 }
 
-use Link::{A, Abis, Rr};
+use Link::{A, Abis, Centre, Dtap, Rr};
 
 /// A text of each message, and how many lists with an item the message keeps.
 const TEXTS: &[(Link, &str, u64)] = &[
@@ -117,6 +120,47 @@ const TEXTS: &[(Link, &str, u64)] = &[
     (Abis, "08210113030206040001090109ff", 1),
     (Abis, "0822011f081234", 0),
     (Abis, "082e0113", 0),
+    // what a controller and a centre said to each other: they begin, and a mobile registers, is ciphered, and is looked for
+    (Centre, "000430040120", 0),
+    (Centre, "000131", 0),
+    (
+        Centre,
+        "001f5705080000f11000170064171205087000f110001757080910100000000010",
+        0,
+    ),
+    (
+        Centre,
+        "001d5705080000f11000170064170d0524710357188105f443babf9f7d0180",
+        0,
+    ),
+    (Centre, "000e530a09027fe40921e52df8002301", 0),
+    (Centre, "0003552c02", 0),
+    (Centre, "000b2f08080910100000000010", 0),
+    (
+        Centre,
+        "0016520808091010000000002009042ef094331a03050017",
+        0,
+    ),
+    (Centre, "000115", 0),
+    // the others, with what may be left out
+    (
+        Centre,
+        "0018520808091010000000002009042ef094331a030500172401",
+        0,
+    ),
+    (
+        Centre,
+        "001255200d063217091332547698103254f62c04",
+        0,
+    ),
+    (Centre, "000459040140", 0),
+    (Centre, "000158", 0),
+    (Centre, "0006541203571881", 0),
+    (Centre, "000a54120357188113026014", 0),
+    (Centre, "0006251803040125", 0),
+    (Dtap, "010002038f", 0),
+    (Dtap, "0180028341", 0),
+    (Dtap, "01000b0559080910100000000020", 0),
 ];
 
 /// Reads octets over a heap, and writes what they say over the same, as these octets. Reading asks for memory for each list
@@ -132,6 +176,8 @@ fn again(
         Rr => radio::again(rt, heap, octets),
         A => a::again(rt, heap, octets, lists),
         Abis => abis::again(rt, heap, octets, lists),
+        Centre => centre::again(rt, heap, octets),
+        Dtap => centre::dtap_again(rt, heap, octets),
     }
 }
 
