@@ -19,8 +19,8 @@ use crate::table::{
 };
 use bssmap_messages::BssmapFault;
 use octet_elements::{
-    ElementTable, Found, append_element, append_octet, append_optional_octet, element_len, octet_len,
-    optional_octet_len,
+    ElementTable, Found, append_element, append_octet, append_optional_octet, element_len,
+    octet_len, optional_octet_len,
 };
 use std::alloc::Allocator;
 
@@ -163,7 +163,10 @@ pub fn can_be_said(message: &CentreMessage<'_>) -> bool
 {
     match message {
         CentreMessage::Paging {
-            imsi, tmsi, cells, ..
+            imsi,
+            tmsi,
+            cells,
+            ..
         } => !imsi.as_slice().is_empty() && are_some(tmsi) && !cells.as_slice().is_empty(),
         CentreMessage::CipherModeCommand { encryption, .. } => !encryption.as_slice().is_empty(),
         CentreMessage::CommonId { imsi } => !imsi.as_slice().is_empty(),
@@ -212,10 +215,7 @@ pub fn elements_len(message: &CentreMessage<'_>) -> usize
             needed,
         } => element_len::<CentreElements>(IMSI, imsi.as_slice())
             .saturating_add(optional_len::<CentreElements>(TMSI, tmsi))
-            .saturating_add(element_len::<CentreElements>(
-                CELL_IDENTIFIER_LIST,
-                cells.as_slice(),
-            ))
+            .saturating_add(element_len::<CentreElements>(CELL_IDENTIFIER_LIST, cells.as_slice()))
             .saturating_add(optional_octet_len::<CentreElements>(CHANNEL_NEEDED, *needed)),
         CentreMessage::CipherModeCommand {
             encryption,
@@ -236,12 +236,14 @@ pub fn elements_len(message: &CentreMessage<'_>) -> usize
             ))
             .saturating_add(optional_len::<ControllerElements>(CODEC_LIST, codecs)),
         CentreMessage::CipherModeComplete { layer3, algorithm } => {
-            optional_len::<ControllerElements>(LAYER_3_CONTENTS, layer3)
-                + optional_octet_len::<ControllerElements>(CHOSEN_ALGORITHM, *algorithm)
+            optional_len::<ControllerElements>(LAYER_3_CONTENTS, layer3).saturating_add(
+                optional_octet_len::<ControllerElements>(CHOSEN_ALGORITHM, *algorithm),
+            )
         }
         CentreMessage::ClassmarkUpdate { two, three } => {
-            element_len::<ControllerElements>(CLASSMARK_2, two.as_slice())
-                .saturating_add(optional_len::<ControllerElements>(CLASSMARK_3, three))
+            element_len::<ControllerElements>(CLASSMARK_2, two.as_slice()).saturating_add(
+                optional_len::<ControllerElements>(CLASSMARK_3, three),
+            )
         }
         CentreMessage::SapiReject { .. } => {
             octet_len::<ControllerElements>(DLCI) + octet_len::<ControllerElements>(CAUSE)
@@ -365,6 +367,7 @@ fn append_reject<A: Allocator>(out: &mut Vec<u8, A>, link: u8, cause: u8)
 }
 
 /// Appends the elements of a message, for which the list has room.
+#[tactic(auto, using(crate::proofs::Written::fields_fit))]
 pub fn append_elements<A: Allocator>(message: &CentreMessage<'_>, out: &mut Vec<u8, A>)
     requires canonical { HasCanonical message.now }
     requires room { HasRoom (all_octets centre_forms (elements_of message.now)) out.old }
