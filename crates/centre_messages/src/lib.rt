@@ -1,9 +1,9 @@
 //! Messages between a base station controller and a switching centre, on A (BSSMAP, TS 48.008), beyond the twelve of
 //! `bssmap_messages`, and the head of DTAP (TS 48.006).
 //!
-//! [`decode`] reads a [`CentreMessage`], which lends the octets of the message and takes no memory; [`encode_into`] writes one,
-//! and [`fits`] says whether a value can be written. Faults are those of `bssmap_messages`. [`read_dtap`] and [`write_dtap`]
-//! are for what a mobile and the centre say to each other, of which nothing but the head is read.
+//! [`decode`] reads a [`CentreMessage`]. It takes no memory: the message lends octets of the text. [`encode_into`] writes a
+//! message, and [`fits`] says whether a value can be written. Faults are those of `bssmap_messages`. [`read_dtap`] and
+//! [`write_dtap`] are for what a mobile and the centre say to each other. Only its head is read.
 #![tactic(auto)]
 
 mod dtap;

@@ -1,8 +1,8 @@
 //! The messages.
 use crate::lent::LentOctets;
 
-/// A message on A that isn't in `bssmap_messages`. A cause is any octet of TS 48.008 clause 3.2.2.5; octets are at least one where
-/// they are there.
+/// A message on A that isn't in `bssmap_messages`. A cause is any octet of TS 48.008 clause 3.2.2.5. Lent octets are at least
+/// one, where they are there.
 #[derive(Debug, Drop)]
 pub enum CentreMessage<'a> {
     /// RESET, TS 48.008 clause 3.2.1.23: either side begins anew.
