@@ -1,5 +1,5 @@
 -- Octets are one DTAP, or have one fault.
-use Rattle.std.proofs.Common.{◌≡◌, ◌⊎◌, ℕ, List, [], ◌∷◌, length, refl, sym, ◌∙◌, inl, inr}
+use Rattle.std.proofs.Common.{◌≡◌, ℕ, List, refl, sym, ◌∙◌, inl, inr}
 use Rattle.centre_messages.specs.declared.dtap.Dtap.{Dtap}
 use Rattle.centre_messages.specs.declared.dtap.DtapFault.{DtapFault}
 use Rattle.centre_messages.specs.declared.dtap.DtapFault.TheVariants.{NotDtap, Length}

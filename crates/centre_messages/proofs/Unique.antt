@@ -1,6 +1,6 @@
 -- Octets begin with one head, or have one fault in it.
-use Rattle.std.proofs.Common.{◌≡◌, ◌⊎◌, ℕ, ◌+◌, List, [], ◌∷◌, Option, Some, Result, Ok, Err, IfOk, IfErr, refl, sym, ◌∙◌, ap, eqb, find, length, inl, inr}
-use Rattle.octet_elements.specs.Texts.{HeadsAreUnique, Says, HasBodyFault}
+use Rattle.std.proofs.Common.{◌≡◌, ◌⊎◌, ℕ, List, [], ◌∷◌, Option, Some, refl, sym, ◌∙◌, ap, eqb, find, inl, inr}
+use Rattle.octet_elements.specs.Texts.{HeadsAreUnique}
 use Rattle.bssmap_messages.specs.declared.fault.BssmapFault.{BssmapFault}
 use Rattle.bssmap_messages.specs.declared.fault.BssmapFault.TheVariants as fault
 use Rattle.bssmap_messages.proofs.Unique.{one_carried}
@@ -8,9 +8,8 @@ use Rattle.centre_messages.specs.declared.head.MessageKind.{MessageKind}
 use Rattle.centre_messages.specs.declared.head.MessageKind.TheVariants.{Centre, Controller}
 use Rattle.centre_messages.specs.declared.head.CentreKind.TheVariants as centre
 use Rattle.centre_messages.specs.declared.head.ControllerKind.TheVariants as controller
-use Rattle.centre_messages.specs.declared.message.CentreMessage.{CentreMessage}
 use Rattle.centre_messages.specs.Heads.{Begins, HasHeadFault, type_of}
-use Rattle.centre_messages.specs.Texts.{codec, IsTextOf, HasFault}
+use Rattle.centre_messages.specs.Texts.{codec}
 
 kinds : List MessageKind
 kinds = Centre centre.Reset ∷ Centre centre.ResetAck ∷ Centre centre.Paging ∷ Centre centre.CipherModeCommand ∷ Centre centre.ClassmarkRequest ∷ Centre centre.CommonId ∷ Centre centre.HandoverSucceeded ∷ Controller controller.CompleteLayer3 ∷ Controller controller.CipherModeComplete ∷ Controller controller.CipherModeReject ∷ Controller controller.ClassmarkUpdate ∷ Controller controller.SapiReject ∷ []

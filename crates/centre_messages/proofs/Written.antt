@@ -1,13 +1,12 @@
 -- A message has a canonical text exactly where its fields can be said and the length octet can count them.
-use Rattle.std.proofs.Common.{◌≡◌, ℕ, ◌+◌, ◌<◌, ◌≤◌, List, [], ◌∷◌, length, length-append, Option, Some, None, Result, Ok, Err, IfSome, refl, sym, ◌∙◌, ap, arith}
+use Rattle.std.proofs.Common.{◌≡◌, ℕ, ◌<◌, ◌≤◌, List, [], ◌∷◌, length, length-append, Option, Some, None, Ok, IfSome, refl, ap, arith}
 use Rattle.std.specs.List.{AllByRecursion}
 use Rattle.octet_elements.specs.declared.form.Form.{Form}
 use Rattle.octet_elements.specs.declared.form.Form.TheVariants.{Fixed, Counted, LongCounted}
 use Rattle.octet_elements.specs.Elements.{Element, Fits, FitsAs, all_octets, element_octets, octets_by_form}
 use Rattle.octet_elements.specs.Lookup.{Lookup, values_in}
-use Rattle.octet_elements.specs.Rows.{Row, ◌>>=◌, octet, optional_octet, octets, optional_octets, ◌▸◌}
-use Rattle.octet_elements.specs.Values.{octet_in, optional_octet_in, octets_in, optional_octets_in}
-use Rattle.octet_elements.specs.declared.values.ValueFault.{ValueFault}
+use Rattle.octet_elements.specs.Rows.{◌>>=◌, octet, optional_octet, octets, optional_octets, ◌▸◌}
+use Rattle.octet_elements.specs.Values.{optional_octet_in, octets_in, optional_octets_in}
 use Rattle.octet_elements.proofs.Rows.{went_on, both_read, each_read}
 use Rattle.octet_elements.proofs.Spelling.{IsFixedAs}
 use Rattle.octet_elements.proofs.Splits.{AreFixed}
@@ -17,7 +16,7 @@ use Rattle.centre_messages.specs.declared.message.CentreMessage.{CentreMessage}
 use Rattle.centre_messages.specs.declared.message.CentreMessage.TheVariants.{Reset, ResetAck, Paging, CipherModeCommand, ClassmarkRequest, CommonId, HandoverSucceeded, CompleteLayer3, CipherModeComplete, CipherModeReject, ClassmarkUpdate, SapiReject}
 use Rattle.centre_messages.specs.Forms.{centre_forms, CELL_IDENTIFIER, IMSI, TMSI, ENCRYPTION_INFORMATION, CLASSMARK_2, CLASSMARK_3, LAYER_3_INFORMATION, CELL_IDENTIFIER_LIST, LAYER_3_CONTENTS, CIPHER_RESPONSE_MODE, CHANNEL_NEEDED, CHOSEN_ALGORITHM, CODEC_LIST}
 use Rattle.centre_messages.specs.Heads.{type_of}
-use Rattle.centre_messages.specs.Messages.{Said, said, kind_of, elements_of, CanBeSaid, paging_rows, command_rows, identity_rows, layer_3_rows, ciphered_rows, classmark_rows}
+use Rattle.centre_messages.specs.Messages.{Said, said, kind_of, elements_of, CanBeSaid, paging_rows, command_rows, layer_3_rows, ciphered_rows, classmark_rows}
 use Rattle.centre_messages.specs.Texts.{codec, HasCanonical, canonical_text, written_octets}
 use Rattle.centre_messages.proofs.Unique.{one_head}
 

@@ -1,6 +1,6 @@
 -- The head of DTAP (TS 48.006 clause 9.3): discriminator 1, the octet of the data link (DLCI, 9.3.2), a length octet. Behind it
 -- stands a message between mobile and centre.
-use Rattle.std.specs.Prelude.{◌≡◌, ◌≢◌, ◌⊎◌, ℕ, ◌<◌, ◌≤◌, ◌↔◌, List, [], ◌∷◌, length, Result, IfOk, IfErr, Ok}
+use Rattle.std.specs.Prelude.{◌≡◌, ◌≢◌, ◌⊎◌, ℕ, ◌<◌, ◌≤◌, List, [], ◌∷◌, length, Result, IfOk, IfErr, Ok}
 use Rattle.centre_messages.specs.declared.dtap.Dtap.{Dtap}
 use Rattle.centre_messages.specs.declared.dtap.DtapFault.{DtapFault}
 use Rattle.centre_messages.specs.declared.dtap.DtapFault.TheVariants.{NotDtap, Length}
