@@ -166,7 +166,7 @@ So it may beside a name.
   1..1
   ok 1 - beside.txt
 
-A line that names what the site lacks may be why something else doesn't come. So it is told where the script isn't met.
+A line that names what the site lacks may be why something else doesn't come. So it is told where what comes differs.
 
   $ printf 'open 1 1 2 3\n#> ..\nopen 2 0 0 3\n#= calls 2\n' >lacks.txt
   $ ./lab test examples/two_cells.toml lacks.txt 2>/dev/null

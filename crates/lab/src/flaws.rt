@@ -203,7 +203,9 @@ pub(crate) fn test_flawed<W: Write>(
     let has_flaws = !reasons.is_empty();
     let run = test_run(alloc, alloc, first, peer, script, &mut reasons)?;
     let ended = ended_by(flaws, has_flaws, run);
-    tell_causes(&flaws.idle, &mut reasons)?;
+    if run == Status::Differs {
+        tell_causes(&flaws.idle, &mut reasons)?;
+    }
     match ended {
         Status::Done => print_met(out, test.number, test.name)?,
         Status::Differs | Status::Refused => {
